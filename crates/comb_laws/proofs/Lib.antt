@@ -1,0 +1,2 @@
+mod Fib
+mod Rows

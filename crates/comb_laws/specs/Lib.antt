@@ -1,0 +1,5 @@
+pub mod Amplitudes
+pub mod Evaluated
+pub mod Operators
+pub mod Paths
+pub mod Plans

@@ -1,0 +1,47 @@
+//! Labelled fusion trees.
+//!
+//! Glossary:
+//! - *labelled tree*: a fusion tree whose leaves are strands and whose nodes carry the label of their
+//!   charge (`specs/Labelled.antt`).
+//! - *left-combed*: every right child is a strand (`specs/Labelled.antt`).
+#![tactic(auto)]
+
+ghost use Rattle.std.specs.Prelude.{◌≡◌, IfOk};
+ghost use Rattle.tree_shapes.specs.Views.{labelled};
+ghost use Rattle.tree_shapes.specs.Labelled.{Joined, is_strand, is_left_comb as is_comb};
+
+mod tree;
+
+pub use tree::{Fork, Tree};
+
+use sqlite_items::Boxed;
+use std::alloc::{AllocError, Global};
+
+/// The tree whose top node has this label and these two children.
+pub fn join(alloc: Global, left: Tree, right: Tree, label: u8) -> Result<Tree, AllocError>
+    ensures { IfOk result (λ t. labelled t ≡ Joined (labelled left) (labelled right) label) }
+{
+    Ok(Tree::Node(Boxed::new(alloc, Fork { left, right, label })?))
+}
+
+/// Whether every right child is a strand.
+pub fn is_left_comb(tree: &Tree) -> bool
+    ensures { result ≡ is_comb (labelled tree.now) }
+{
+    match tree {
+        Tree::Leaf(_) => true,
+        Tree::Node(fork) => {
+            let fork = fork.get();
+            is_leaf(&fork.right) && is_left_comb(&fork.left)
+        }
+    }
+}
+
+fn is_leaf(tree: &Tree) -> bool
+    ensures { result ≡ is_strand (labelled tree.now) }
+{
+    match tree {
+        Tree::Leaf(_) => true,
+        Tree::Node(_) => false,
+    }
+}
