@@ -1,0 +1,25 @@
+//! The top call: words of the command line, a shelf of texts and a sink.
+//!
+//! - *reply*: a status, and the bytes that are written (`specs/Replies.antt`).
+//! - *line*: words with one space between two, ended by the byte 0x0A (`specs/Lines.antt`).
+//! - *work*: what a command does. It wants one text after another, and in the end it says its reply.
+//!   So it gives the reply over a map of texts, the order of refusals, and which texts are reached
+//!   (`specs/Work.antt`).
+//! - *stage*: a step of a command. It stops the command, or hands on a value (`specs/Stages.antt`).
+//! - *headline*: what the top call says of its status, of the shelf and of the sink
+//!   (`specs/Headline.antt`, [`anyon`]).
+#![tactic(auto)]
+
+mod causes;
+mod comb;
+mod lines;
+mod stand_in;
+mod status;
+mod stop;
+mod texts;
+mod top;
+
+pub use status::Status;
+pub use top::anyon;
+
+use stop::Stop;
