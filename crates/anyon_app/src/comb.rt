@@ -63,7 +63,7 @@ fn category_stop(alloc: Global, line: u32, cause: CategoryCause) -> Stop
     let mut buffer = Buffer::new();
     refusal(
         alloc,
-        &["refused", "category", "line", buffer.format(line), category_words(cause)],
+        &["category", "line", buffer.format(line), category_words(cause)],
     )
 }
 
@@ -72,7 +72,7 @@ fn judge(alloc: Global, category: u32) -> Result<(), Stop>
     ensures { Gives (λ _. tt) result (verdict_of category) }
 {
     if category % 3 == 0 {
-        return Err(refusal(alloc, &["refused", "not built", "category"]));
+        return Err(refusal(alloc, &["not built", "category"]));
     }
     if category > 500 {
         return Err(derive_stop(alloc, category));
@@ -84,7 +84,7 @@ fn derive_stop(alloc: Global, category: u32) -> Stop
     ensures { StopsWith (derive_overflow category) result }
 {
     let mut buffer = Buffer::new();
-    limit(alloc, &["limit", "overflow", "derive-h", buffer.format(category)])
+    limit(alloc, &["overflow", "derive-h", buffer.format(category)])
 }
 
 // The program of these bytes, if they are of the form.
@@ -94,7 +94,7 @@ fn plan(alloc: Global, category: u32, text: &[u8]) -> Result<u32, Stop>
 {
     match read_program(category, text) {
         Some(plan) => Ok(plan),
-        None => Err(refusal(alloc, &["refused", "not built", "program"])),
+        None => Err(refusal(alloc, &["not built", "program"])),
     }
 }
 
@@ -115,12 +115,12 @@ fn turn_stop(alloc: Global, turn: u32) -> Stop
     ensures { StopsWith (turn_overflow turn) result }
 {
     let mut buffer = Buffer::new();
-    limit(alloc, &["limit", "overflow", "turn", buffer.format(turn)])
+    limit(alloc, &["overflow", "turn", buffer.format(turn)])
 }
 
 fn report(alloc: Global, sum: u64) -> Result<Vec<u8>, AllocError>
     ensures { IfOk result (λ report. report.items ≡ report_of sum) }
 {
     let mut buffer = Buffer::new();
-    line(alloc, &["total", buffer.format(sum)])
+    line(alloc, "total", &[buffer.format(sum)])
 }

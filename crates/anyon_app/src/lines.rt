@@ -1,18 +1,16 @@
 // The lines that are written.
-ghost use Rattle.std.specs.Prelude.{◌≡◌, ◌++◌, map, IfOk, OnOk};
+ghost use Rattle.std.specs.Prelude.{◌≡◌, ◌++◌, ◌∷◌, map, IfOk, OnOk};
 ghost use Rattle.anyon_app.specs.Lines.{line_of, spaced_on};
 
 use std::alloc::{AllocError, Global};
 
 /// One line of words, with one space between two and its end.
-pub fn line(alloc: Global, words: &[&str]) -> Result<Vec<u8>, AllocError>
-    ensures { IfOk result (λ line. line.items ≡ line_of (map (λ word. word.now) words.now)) }
+#[tactic(auto, using(crate::proofs::LineLemmas::line_is))]
+pub fn line(alloc: Global, first: &str, others: &[&str]) -> Result<Vec<u8>, AllocError>
+    ensures { IfOk result (λ line. line.items ≡ line_of (first.now ∷ map (λ word. word.now) others.now)) }
 {
-    let mut line = Vec::new(alloc);
-    if let Some((first, others)) = words.split_first() {
-        line.extend_from_slice(first.as_bytes())?;
-        add_words(&mut line, others)?;
-    }
+    let mut line = Vec::from_slice(alloc, first.as_bytes())?;
+    add_words(&mut line, others)?;
     line.push(b'\n')?;
     Ok(line)
 }

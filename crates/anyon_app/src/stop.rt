@@ -1,7 +1,6 @@
 // What ends a command without a report.
 ghost use Rattle.std.specs.Prelude.{map};
-ghost use Rattle.anyon_app.specs.Replies.{refused, limited};
-ghost use Rattle.anyon_app.specs.Lines.{line_of};
+ghost use Rattle.anyon_app.specs.Lines.{refusal_of, limit_of};
 ghost use Rattle.anyon_app.specs.Stages.{StopsWith};
 
 use crate::lines::line;
@@ -20,21 +19,21 @@ pub enum Stop {
     OutOfMemory,
 }
 
-/// Stops with the line of these words, a refusal.
+/// Stops with the line of a refusal, whose words after the first are these.
 pub fn refusal(alloc: Global, words: &[&str]) -> Stop
-    ensures { StopsWith (refused (line_of (map (λ word. word.now) words.now))) result }
+    ensures { StopsWith (refusal_of (map (λ word. word.now) words.now)) result }
 {
-    match line(alloc, words) {
+    match line(alloc, "refused", words) {
         Ok(line) => Stop::RefusalLine(line),
         Err(_) => Stop::OutOfMemory,
     }
 }
 
-/// Stops with the line of these words, a limit.
+/// Stops with the line of a limit, whose words after the first are these.
 pub fn limit(alloc: Global, words: &[&str]) -> Stop
-    ensures { StopsWith (limited (line_of (map (λ word. word.now) words.now))) result }
+    ensures { StopsWith (limit_of (map (λ word. word.now) words.now)) result }
 {
-    match line(alloc, words) {
+    match line(alloc, "limit", words) {
         Ok(line) => Stop::LimitLine(line),
         Err(_) => Stop::OutOfMemory,
     }

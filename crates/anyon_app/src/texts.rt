@@ -42,7 +42,7 @@ fn too_long_stop(alloc: Global, kind: Kind) -> Stop
     ensures { StopsWith (too_long kind) result }
 {
     match kind {
-        Kind::Category => refusal(alloc, &["refused", "category", "too long"]),
-        Kind::Program => refusal(alloc, &["refused", "not built", "program"]),
+        Kind::Category => refusal(alloc, &["category", "too long"]),
+        Kind::Program => refusal(alloc, &["not built", "program"]),
     }
 }
