@@ -1,3 +1,4 @@
 mod LineLemmas
 mod StageLemmas
 mod Puts
+mod Reached

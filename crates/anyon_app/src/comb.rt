@@ -38,7 +38,12 @@ fn category_text<S: Shelf>(alloc: Global, shelf: &mut S, name: &str) -> Result<u
 }
 
 // The program of a text.
-fn program_text<S: Shelf>(alloc: Global, shelf: &mut S, category: u32, name: &str) -> Result<u32, Stop>
+fn program_text<S: Shelf>(
+    alloc: Global,
+    shelf: &mut S,
+    category: u32,
+    name: &str,
+) -> Result<u32, Stop>
     ensures { Passes S.files S.faults shelf.old shelf.new (λ plan. plan) (read_work (too_long Kind.Program) (plan_of category) name.now) result }
 {
     let text = text(alloc, shelf, Kind::Program, name)?;
@@ -63,7 +68,12 @@ fn category_stop(alloc: Global, line: u32, cause: CategoryCause) -> Stop
     let mut buffer = Buffer::new();
     refusal(
         alloc,
-        &["category", "line", buffer.format(line), category_words(cause)],
+        &[
+            "category",
+            "line",
+            buffer.format(line),
+            category_words(cause),
+        ],
     )
 }
 

@@ -12,6 +12,7 @@
 
 mod causes;
 mod comb;
+mod laws;
 mod lines;
 mod stand_in;
 mod status;
@@ -19,7 +20,10 @@ mod stop;
 mod texts;
 mod top;
 
+pub use laws::over_sure_shelf;
 pub use status::Status;
+use stop::Stop;
 pub use top::anyon;
 
-use stop::Stop;
+#[cfg(test)]
+mod tests;

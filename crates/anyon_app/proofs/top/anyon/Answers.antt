@@ -1,6 +1,5 @@
 use Rattle.std.proofs.Common.{map, string_bytes, inl, inr, refl}
 use Rattle.anyon_app.specs.Replies.{done, refused, limited}
-
 use Rattle.anyon_app.specs.Headline.{command_in, command_work}
 use Rattle.anyon_app.proofs.Puts.{put_answered, put_begun, put_complete}
 use Rattle.anyon_app.proofs.top.anyon.Goals as goal
