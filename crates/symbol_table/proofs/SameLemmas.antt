@@ -1,11 +1,11 @@
 -- Two indices compare as equal exactly where their labels are the same; one value more in a map.
-use Rattle.std.proofs.Common.{◌≡◌, ℕ, Bool, true, false, ◌&&◌, ◌==◌, refl, sym, ap, ◌∙◌, Option, Some, cond, arith}
+use Rattle.std.proofs.Common.{◌≡◌, ℕ, Bool, true, false, ◌&&◌, ◌==◌, refl, ap, ◌∙◌, Option, Some, cond, arith}
 use Rattle.std.specs.Prelude.{if◌then◌else◌}
 use Rattle.std.specs.Ordering.{nat_cmp, ordering_then, is_eq}
 use Rattle.std.specs.declared.cmp.Ordering.{Ordering}
 use Rattle.std.specs.declared.cmp.Ordering.TheVariants.{Less, Equal, Greater}
-use Rattle.std.specs.Prelude.{OnOk, All, IsTrue, List, Result, Ok, Err}
-use Rattle.std.specs.Map.{lookup, values_of}
+use Rattle.std.specs.Prelude.{OnOk, IsTrue, List, Result, Ok, Err}
+use Rattle.std.specs.Map.{lookup}
 use Rattle.std.specs.BTreeMap.{BTreeMap, Updates, insert_entry, is_at}
 use Rattle.std.proofs.lemmas.Map.Views.{All-values-insert_entry}
 use Rattle.ring_laws.specs.Ring.{Ring}

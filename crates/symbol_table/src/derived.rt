@@ -1,7 +1,10 @@
 ghost use Rattle.std.specs.Prelude.{◌≡◌, [], IsSomeAnd, IsTrue, OnOk, OnErr};
-ghost use Rattle.symbol_table.specs.Draft.{SetsVertex};
-ghost use Rattle.symbol_table.specs.Derived.{DerivedValue, PutsH, h_put, s_put, with_h, with_s};
+ghost use Rattle.symbol_table.specs.Index.{AreSixLabels, AreThreeLabels};
+ghost use Rattle.symbol_table.specs.Symbols.{h_of, s_of};
+ghost use Rattle.symbol_table.specs.Draft.{SetsVertex, given};
+ghost use Rattle.symbol_table.specs.Derived.{DerivedValue, HoldsSymbols, PutsH, h_put, s_put, with_h, with_s};
 
+use crate::draft::{Draft, admits};
 use crate::index::{FIndex, VIndex};
 use crate::values::{copy_found, put_value};
 use ring_laws::StarRing;
@@ -60,6 +63,7 @@ impl<R: StarRing> Derived<R> {
     pub fn h(&self, ring: &R, at: &FIndex) -> R::Elem
         requires { IsSomeAnd (h_put self.now at.now.a at.now.b at.now.c at.now.d at.now.f at.now.e) (λ x. IsTrue ((R.ring ring.now).member x)) }
         ensures value { h_put self.now at.now.a at.now.b at.now.c at.now.d at.now.f at.now.e ≡ Some result }
+        ensures member { IsTrue ((R.ring ring.now).member result) }
         ensures held { IsTrue (R.held.can_hold result) }
     {
         copy_found(ring, self.h.get(at))
@@ -69,8 +73,40 @@ impl<R: StarRing> Derived<R> {
     pub fn s(&self, ring: &R, at: &VIndex) -> R::Elem
         requires { IsSomeAnd (s_put self.now at.now.a at.now.b at.now.c) (λ x. IsTrue ((R.ring ring.now).member x)) }
         ensures value { s_put self.now at.now.a at.now.b at.now.c ≡ Some result }
+        ensures member { IsTrue ((R.ring ring.now).member result) }
         ensures held { IsTrue (R.held.can_hold result) }
     {
         copy_found(ring, self.s.get(at))
+    }
+
+    /// H(a,b,c,d;f,e) of a draft at any six labels below the count: 0 where F(a,b,c,d;e,f) isn't admissible.
+    /// Asks that the derived values are those of the draft.
+    pub fn h_at(&self, draft: &Draft<R>, a: u8, b: u8, c: u8, d: u8, f: u8, e: u8) -> R::Elem
+        requires labels { AreSixLabels draft.now.rules.count a b c d e f }
+        requires holds { HoldsSymbols (R.ring draft.now.ring) (given draft.now) self.now }
+        ensures value { result ≡ h_of (R.ring draft.now.ring) (given draft.now) a b c d f e }
+        ensures member { IsTrue ((R.ring draft.now.ring).member result) }
+        ensures held { IsTrue (R.held.can_hold result) }
+    {
+        let at = FIndex { a, b, c, d, e, f };
+        if !admits(draft.rules(), &at) {
+            return draft.ring().zero();
+        }
+        self.h(draft.ring(), &at)
+    }
+
+    /// S(a,b,c) of a draft at any three labels below the count: 0 where they aren't admissible. Asks that the
+    /// derived values are those of the draft.
+    pub fn s_at(&self, draft: &Draft<R>, a: u8, b: u8, c: u8) -> R::Elem
+        requires labels { AreThreeLabels draft.now.rules.count a b c }
+        requires holds { HoldsSymbols (R.ring draft.now.ring) (given draft.now) self.now }
+        ensures value { result ≡ s_of (R.ring draft.now.ring) (given draft.now) a b c }
+        ensures member { IsTrue ((R.ring draft.now.ring).member result) }
+        ensures held { IsTrue (R.held.can_hold result) }
+    {
+        if !draft.rules().allows(a, b, c) {
+            return draft.ring().zero();
+        }
+        self.s(draft.ring(), &VIndex { a, b, c })
     }
 }

@@ -48,7 +48,7 @@ impl<R: StarRing> Model for Draft<R> {
 }
 
 /// Whether the four vertices of an index of F are triples of the rules.
-fn admits(rules: &Rules, at: &FIndex) -> bool
+pub(crate) fn admits(rules: &Rules, at: &FIndex) -> bool
     requires { AreSixLabels rules.now.count at.now.a at.now.b at.now.c at.now.d at.now.e at.now.f }
     ensures { result ≡ f_admissible (fuses rules.now) at.now.a at.now.b at.now.c at.now.d at.now.e at.now.f }
 {
@@ -189,5 +189,58 @@ impl<R: StarRing> Draft<R> {
             return Err(SetFault::NotAdmissible);
         }
         set_value(&mut self.v, at, value)
+    }
+
+    /// F(a,b,c,d;e,f) at any six labels below the count: 0 where they aren't admissible.
+    pub fn f_at(&self, a: u8, b: u8, c: u8, d: u8, e: u8, f: u8) -> R::Elem
+        requires labels { AreSixLabels self.now.rules.count a b c d e f }
+        ensures value { result ≡ f_of (R.ring self.now.ring) (given self.now) a b c d e f }
+        ensures member { IsTrue ((R.ring self.now.ring).member result) }
+        ensures held { IsTrue (R.held.can_hold result) }
+    {
+        let at = FIndex { a, b, c, d, e, f };
+        if !admits(&self.rules, &at) {
+            return self.ring.zero();
+        }
+        self.f(&at)
+    }
+
+    /// R(a,b,c) at any three labels below the count: 0 where they aren't admissible.
+    pub fn r_at(&self, a: u8, b: u8, c: u8) -> R::Elem
+        requires labels { AreThreeLabels self.now.rules.count a b c }
+        ensures value { result ≡ vertex_of (R.ring self.now.ring) (given self.now) (given self.now).set_r a b c }
+        ensures member { IsTrue ((R.ring self.now.ring).member result) }
+        ensures held { IsTrue (R.held.can_hold result) }
+    {
+        if !self.rules.allows(a, b, c) {
+            return self.ring.zero();
+        }
+        self.r(&VIndex { a, b, c })
+    }
+
+    /// The weight w(a,b,c) at any three labels below the count: 0 where they aren't admissible.
+    pub fn w_at(&self, a: u8, b: u8, c: u8) -> R::Elem
+        requires labels { AreThreeLabels self.now.rules.count a b c }
+        ensures value { result ≡ vertex_of (R.ring self.now.ring) (given self.now) (given self.now).set_w a b c }
+        ensures member { IsTrue ((R.ring self.now.ring).member result) }
+        ensures held { IsTrue (R.held.can_hold result) }
+    {
+        if !self.rules.allows(a, b, c) {
+            return self.ring.zero();
+        }
+        self.w(&VIndex { a, b, c })
+    }
+
+    /// The inverse weight v(a,b,c) at any three labels below the count: 0 where they aren't admissible.
+    pub fn v_at(&self, a: u8, b: u8, c: u8) -> R::Elem
+        requires labels { AreThreeLabels self.now.rules.count a b c }
+        ensures value { result ≡ vertex_of (R.ring self.now.ring) (given self.now) (given self.now).set_v a b c }
+        ensures member { IsTrue ((R.ring self.now.ring).member result) }
+        ensures held { IsTrue (R.held.can_hold result) }
+    {
+        if !self.rules.allows(a, b, c) {
+            return self.ring.zero();
+        }
+        self.v(&VIndex { a, b, c })
     }
 }

@@ -59,6 +59,7 @@ pub(crate) fn put_value<K: Ord + Drop, E: Drop>(
 pub(crate) fn copy_found<R: StarRing>(ring: &R, value: Option<&R::Elem>) -> R::Elem
     requires { IsSomeAnd (option_copied value) (λ x. IsTrue ((R.ring ring.now).member x)) }
     ensures value { option_copied value.entry ≡ Some result }
+    ensures member { IsTrue ((R.ring ring.now).member result) }
     ensures held { IsTrue (R.held.can_hold result) }
 {
     match value {
