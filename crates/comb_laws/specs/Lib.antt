@@ -1,5 +1,6 @@
 pub mod Amplitudes
 pub mod Evaluated
+pub mod Operations
 pub mod Operators
 pub mod Paths
 pub mod Plans
