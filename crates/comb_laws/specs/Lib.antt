@@ -1,4 +1,5 @@
 pub mod Amplitudes
+pub mod Entries
 pub mod Evaluated
 pub mod Operations
 pub mod Operators

@@ -5,7 +5,7 @@ ghost use Rattle.ring_laws.specs.Stated.{Gives};
 ghost use Rattle.symbol_table.specs.Symbols.{symbols_of, f_admissible};
 ghost use Rattle.comb_laws.specs.Operators.{exchange_by};
 ghost use Rattle.comb_laws.specs.Evaluated.{braid_step, braid_kernel_at, charge_kernel_at};
-ghost use Rattle.comb_laws.specs.Operations.{kernel_at};
+ghost use Rattle.comb_laws.specs.Operations.{kernel_at, charge_below};
 
 use crate::source::SymbolSource;
 use crate::terms::braid_term;
@@ -94,7 +94,8 @@ fn braid_step_at<R: StarRing, S: SymbolSource<R>>(
     braid_term(source.ring(), &f, &exchange, &h, sum)
 }
 
-/// A braid's kernel.
+/// A braid's kernel, the sum over the charges of its two strands.
+#[tactic(auto, using(ring_laws::proofs::StatedLemmas::steps_one, ring_laws::proofs::StatedLemmas::steps_none))]
 fn braid_kernel<R: StarRing, S: SymbolSource<R>>(
     source: &S,
     sign: Sign,
@@ -150,4 +151,29 @@ fn charge_kernel<R: StarRing, S: SymbolSource<R>>(
     let f = source.f(&over);
     let h = source.h(&back);
     source.ring().mul(&f, &h)
+}
+
+/// The kernel of an operator from the label t between the strands to the label u.
+pub(crate) fn kernel<R: StarRing, S: SymbolSource<R>>(
+    source: &S,
+    operator: Operator,
+    place: &Place,
+    t: u8,
+    u: u8,
+) -> Result<R::Elem, Overflow>
+    requires p { place.now.p < (S.given source.now).count }
+    requires a { place.now.a < (S.given source.now).count }
+    requires b { place.now.b < (S.given source.now).count }
+    requires y { place.now.y < (S.given source.now).count }
+    requires t { t < (S.given source.now).count }
+    requires u { u < (S.given source.now).count }
+    requires charge { charge_below (S.given source.now).count operator }
+    ensures value { Gives result (kernel_at (symbols_of (R.ring (S.base source.now)) R.held (S.given source.now)) operator
+        place.now.p place.now.a place.now.b place.now.y t u) }
+    ensures member { IfOk result (λ z. IsTrue ((R.ring (S.base source.now)).member z)) }
+{
+    match operator {
+        Operator::Exchange(sign) => braid_kernel(source, sign, place, t, u),
+        Operator::Project(q) => charge_kernel(source, q, place, t, u),
+    }
 }

@@ -11,6 +11,8 @@
 //! - *stated evaluation*: which products, sums and conjugates arise, in their order (`specs/Evaluated.antt`).
 #![tactic(auto)]
 
+mod act;
 mod kernel;
 mod source;
 mod terms;
+mod vector;
