@@ -1,2 +1,3 @@
 mod Fib
 mod Rows
+pub mod EntryLemmas

@@ -10,3 +10,9 @@
 //! - *rows of a plan*: the words of outcomes whose weight isn't zero (`specs/Plans.antt`).
 //! - *stated evaluation*: which products, sums and conjugates arise, in their order (`specs/Evaluated.antt`).
 #![tactic(auto)]
+
+mod act;
+mod kernel;
+mod source;
+mod terms;
+mod vector;

@@ -1,0 +1,73 @@
+//! One step of the engine: an operator at a gap of a comb vector.
+
+ghost use Rattle.std.specs.Prelude.{◌≡◌, ◌<◌, ◌≤◌, ◌+◌, ◌-◌, ℕ, List, All, IsTrue, IfOk, length, true};
+ghost use Rattle.ring_laws.specs.Stated.{Gives};
+ghost use Rattle.symbol_table.specs.Symbols.{symbols_of};
+ghost use Rattle.comb_laws.specs.Paths.{goes_on as spec_goes_on, is_path as spec_is_path};
+ghost use Rattle.comb_laws.specs.Entries.{vector_of, AreMembers, IsAlong};
+ghost use Rattle.comb_laws.specs.Evaluated.{acted_step, acted_at as spec_acted_at};
+ghost use Rattle.comb_laws.specs.Operations.{kernel_at, charge_below, IsGap};
+
+use crate::kernel::{kernel, Operator, Place};
+use crate::source::SymbolSource;
+use crate::terms::term_added;
+use crate::vector::{value_at, with_label, CombVector, Path};
+use ring_laws::{is_zero, Overflow, StarRing};
+
+/// Whether these labels, after p, go along the strands.
+fn goes_on<R: StarRing, S: SymbolSource<R>>(source: &S, p: u8, strands: &[u8], at: &[u8]) -> bool
+    requires p { p < (S.given source.now).count }
+    requires strands { All (λ x. x < (S.given source.now).count) strands.now }
+    ensures { result ≡ spec_goes_on (symbols_of (R.ring (S.base source.now)) R.held (S.given source.now)) p strands.now at.now }
+{
+    match (strands, at) {
+        ([], []) => true,
+        ([s, ss @ ..], [x, xs @ ..]) => {
+            *x < source.count() && source.allows(p, *s, *x) && goes_on(source, *x, ss, xs)
+        }
+        _ => false,
+    }
+}
+
+/// Whether this is a path over the strands.
+fn is_path<R: StarRing, S: SymbolSource<R>>(source: &S, strands: &[u8], at: &[u8]) -> bool
+    requires some { 0 < (S.given source.now).count }
+    requires strands { All (λ x. x < (S.given source.now).count) strands.now }
+    ensures { result ≡ spec_is_path (symbols_of (R.ring (S.base source.now)) R.held (S.given source.now)) strands.now at.now }
+{
+    match at {
+        [] => false,
+        [x, xs @ ..] => *x == 0 && goes_on(source, 0, strands, xs),
+    }
+}
+
+/// The term of the label t in the new value at a path, added to a sum where the old value isn't zero.
+fn acted_term<R: StarRing, S: SymbolSource<R>>(
+    source: &S,
+    strands: &[u8],
+    k: usize,
+    operator: Operator,
+    vector: &CombVector<R>,
+    path: &Path,
+    t: u8,
+    sum: &R::Elem,
+) -> Result<R::Elem, Overflow>
+    requires gap { IsGap (S.given source.now).count strands.now k }
+    requires charge { charge_below (S.given source.now).count operator }
+    requires along { IsAlong (S.given source.now).count (length strands.now) path.now.items }
+    requires label { t < (S.given source.now).count }
+    requires members { AreMembers (R.ring (S.base source.now)) vector.now }
+    requires sum { IsTrue ((R.ring (S.base source.now)).member sum.now) }
+    ensures value { let c = symbols_of (R.ring (S.base source.now)) R.held (S.given source.now) in
+        Gives result (acted_step c strands.now k (kernel_at c operator) (vector_of c.ring vector.now) path.now.items t sum.now) }
+    ensures member { IfOk result (λ z. IsTrue ((R.ring (S.base source.now)).member z)) }
+{
+    let old = value_at(source.ring(), vector, &with_label(path, k, t));
+    if is_zero(source.ring(), &old) {
+        return Ok(source.ring().copy(sum));
+    }
+    let labels = path.as_slice();
+    let place = Place { p: labels[k - 1], a: strands[k - 1], b: strands[k], y: labels[k + 1] };
+    let by = kernel(source, operator, &place, t, labels[k])?;
+    term_added(source.ring(), &by, &old, sum)
+}
