@@ -3,6 +3,8 @@ pub mod Lines
 pub mod Work
 pub mod Stages
 pub mod Causes
+pub mod Refusals
 pub mod StandIn
+pub mod Report
 pub mod Comb
 pub mod Headline

@@ -14,6 +14,8 @@ mod causes;
 mod comb;
 mod laws;
 mod lines;
+mod refusals;
+mod report;
 mod stand_in;
 mod status;
 mod stop;

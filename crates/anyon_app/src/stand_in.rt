@@ -1,6 +1,10 @@
 // Stand-ins for the readers of categories and programs and for the engine.
-ghost use Rattle.std.specs.Prelude.{◌≡◌, ◌<◌, ◌-◌, ◌^◌, length};
-ghost use Rattle.anyon_app.specs.StandIn.{category_of, program_of, evaluation_of, Told};
+ghost use Rattle.std.specs.Prelude.{◌≡◌, ◌<◌, ◌-◌, ◌^◌, ◌++◌, decimal, length, OnOk};
+ghost use Rattle.anyon_app.specs.StandIn.{category_of, program_of, evaluation_of, Evaluates, Told};
+
+use fusion_rules::Names;
+use itoa::Buffer;
+use std::alloc::{AllocError, Global};
 
 #[derive(Clone, Copy, Debug, PartialEq, Eq)]
 pub enum LineCause {
@@ -40,8 +44,15 @@ pub enum CategoryFault {
     Memory,
 }
 
+/// A category: its names, and the size of its text.
+#[derive(Drop)]
+pub struct Named {
+    pub names: Names,
+    pub size: u32,
+}
+
 #[tactic(auto, unfolding(crate::specs::StandIn::category_of))]
-pub fn read_category(text: &[u8]) -> Result<u32, CategoryFault>
+pub fn read_category(alloc: Global, text: &[u8]) -> Result<Named, CategoryFault>
     requires { length text.now < 2 ^ 32 - 1 }
     ensures { Told result (category_of text.now) }
 {
@@ -57,28 +68,52 @@ pub fn read_category(text: &[u8]) -> Result<u32, CategoryFault>
             cause: CategoryCause::Short,
         });
     }
-    Ok(text.len() as u32)
+    Ok(Named {
+        names: Names::new(alloc),
+        size: text.len() as u32,
+    })
 }
 
 #[tactic(auto, unfolding(crate::specs::StandIn::program_of))]
-pub fn read_program(category: u32, text: &[u8]) -> Option<u32>
+pub fn read_program(named: &Named, text: &[u8]) -> Option<u32>
     requires { length text.now < 2 ^ 32 - 1 }
-    ensures { result ≡ program_of category text.now }
+    ensures { result ≡ program_of named.now text.now }
 {
-    let _category = category;
+    let _size = named.size;
     if text.len() % 2 == 1 {
         return None;
     }
     Some(text.len() as u32)
 }
 
+#[derive(Drop)]
+pub struct Row {
+    pub word: Vec<u8>,
+    pub weight: u64,
+}
+
+#[derive(Drop)]
+pub struct Rows {
+    pub total: u64,
+    pub list: Vec<Row>,
+}
+
 #[tactic(auto, unfolding(crate::specs::StandIn::evaluation_of))]
-pub fn evaluate(category: u32, program: u32) -> Result<u64, u32>
-    ensures { result ≡ evaluation_of category program }
+pub fn evaluate(alloc: Global, named: &Named, program: u32) -> Result<Rows, u32>
+    ensures { Evaluates result (evaluation_of named.now program) }
 {
-    let sum = u64::from(category) + u64::from(program);
-    if sum > 1000 {
+    let total = u64::from(named.size) + u64::from(program);
+    if total > 1000 {
         return Err(1);
     }
-    Ok(sum)
+    Ok(Rows {
+        total,
+        list: Vec::new(alloc),
+    })
+}
+
+pub fn write_number(number: &u64, out: &mut Vec<u8>) -> Result<(), AllocError>
+    ensures { OnOk result (out.new.items ≡ out.old.items ++ decimal number.now) }
+{
+    out.extend_from_slice(Buffer::new().format(*number).as_bytes())
 }

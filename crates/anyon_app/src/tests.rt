@@ -44,7 +44,11 @@ fn replies(rt: HostRuntime) -> Result<(), Fail> {
             "refused category line 2 short\n",
         ),
         ("comb 6 5", Status::Refused, "refused not built category\n"),
-        ("comb 502 6", Status::Limit, "limit overflow derive-h 502\n"),
+        (
+            "comb 502 6",
+            Status::Limit,
+            "limit overflow derive-h      \n",
+        ),
         ("comb 4 5", Status::Refused, "refused not built program\n"),
         ("comb 4 998", Status::Limit, "limit overflow turn 1\n"),
         ("comb 4 6", Status::Done, "total 10\n"),

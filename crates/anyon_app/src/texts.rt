@@ -1,10 +1,11 @@
 // The texts of a command.
 ghost use Rattle.std.specs.Prelude.{◌≡◌, ◌≤◌, IfOk, vec_len};
 ghost use Rattle.anyon_app.specs.Work.{text_limit, text_work};
-ghost use Rattle.anyon_app.specs.Stages.{Loads, Passes, StopsWith};
-ghost use Rattle.anyon_app.specs.Comb.{too_long};
+ghost use Rattle.anyon_app.specs.Stages.{Loads, Passes};
+ghost use Rattle.anyon_app.specs.Refusals.{too_long};
 
-use crate::stop::{Stop, refusal};
+use crate::refusals::too_long;
+use crate::stop::Stop;
 use io_ports::{LoadFault, Shelf, load};
 use std::alloc::Global;
 
@@ -31,18 +32,8 @@ fn loaded<S: Shelf>(alloc: Global, shelf: &mut S, kind: Kind, name: &str) -> Res
 {
     match load(alloc, shelf, name, TEXT_LIMIT) {
         Ok(text) => Ok(text),
-        Err(LoadFault::TooLong) => Err(too_long_stop(alloc, kind)),
+        Err(LoadFault::TooLong) => Err(too_long(alloc, kind)),
         Err(LoadFault::Failed) => Err(Stop::Unread),
         Err(LoadFault::Memory) => Err(Stop::OutOfMemory),
-    }
-}
-
-// The stop at a text that is too long.
-fn too_long_stop(alloc: Global, kind: Kind) -> Stop
-    ensures { StopsWith (too_long kind) result }
-{
-    match kind {
-        Kind::Category => refusal(alloc, &["category", "too long"]),
-        Kind::Program => refusal(alloc, &["not built", "program"]),
     }
 }

@@ -1,4 +1,4 @@
-use Rattle.anyon_app.specs.Comb.{too_long}
+use Rattle.anyon_app.specs.Refusals.{too_long}
 use Rattle.anyon_app.proofs.StageLemmas.{text_passes}
 use Rattle.anyon_app.proofs.texts.text.Goals as goal
 
