@@ -1,3 +1,4 @@
 pub mod PartLemmas
 pub mod SpellingLemmas
 pub mod PlainLemmas
+pub mod WordLemmas

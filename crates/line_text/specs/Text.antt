@@ -1,6 +1,7 @@
 -- Texts, lines and words.
-use Rattle.std.specs.Prelude.{◌≡◌, ℕ, ◌+◌, List, [], ◌∷◌, Bool, true, false, ◌==◌, nat_lt, length, slice_index, if◌then◌else◌, Option, Some, None, Result, Ok, Err}
+use Rattle.std.specs.Prelude.{◌≡◌, ℕ, ◌+◌, List, [], ◌∷◌, Bool, true, false, ◌==◌, nat_lt, length, slice_index, slice_index_or, if◌then◌else◌, Option, Some, None, Result, Ok, Err}
 use Rattle.std.specs.List.{onto_first}
+use Rattle.std.specs.Str.{bytes_eq}
 use Rattle.line_text.specs.declared.fault.LineCause.{LineCause}
 use Rattle.line_text.specs.declared.fault.LineCause.TheVariants.{TooLong, NotAscii}
 use Rattle.line_text.specs.declared.fault.LineFault.{LineFault}
@@ -32,6 +33,14 @@ not_empty (part ∷ parts) = with_word part (not_empty parts)
 -- the words of a line: its parts between spaces that aren't empty
 abbrev pub words_of : List ℕ → List (List ℕ)
 words_of line = not_empty (parts_of 32 line)
+
+-- the word at a place counted from 0, or nothing
+abbrev pub word_in : List (List ℕ) → ℕ → List ℕ
+word_in words place = slice_index_or words place []
+
+-- whether this word stands at a place
+abbrev pub has_word : List (List ℕ) → ℕ → List ℕ → Bool
+has_word words place text = bytes_eq (word_in words place) text
 
 -- whether every byte is from 0x20 to 0x7E
 abbrev pub all_printable : List ℕ → Bool

@@ -1,5 +1,5 @@
 ghost use Rattle.std.specs.Prelude.{◌≡◌, ◌<◌, ◌≤◌, ◌+◌, ◌^◌, ◌-◌, ℕ, List, length, slice_get, option_copied};
-ghost use Rattle.line_text.specs.Text.{Reading, reading_of, FindsNext, lines_of, words_of};
+ghost use Rattle.line_text.specs.Text.{Reading, reading_of, FindsNext, lines_of, words_of, word_in, has_word};
 
 use crate::fault::LineFault;
 use crate::line::Line;
@@ -77,5 +77,19 @@ impl<'a> Line<'a> {
         ensures { option_copied result ≡ slice_get (words_of self.now.text.now) place }
     {
         word_at(self.text, place)
+    }
+
+    /// The word at a place counted from 0, or no bytes where the line has no more words than the place.
+    pub fn word_or_empty(&self, place: usize) -> &'a [u8]
+        ensures { result.now ≡ word_in (words_of self.now.text.now) place }
+    {
+        self.word(place).unwrap_or(&[])
+    }
+
+    /// Whether this word stands at a place counted from 0.
+    pub fn has_word(&self, place: usize, word: &[u8]) -> bool
+        ensures { result ≡ has_word (words_of self.now.text.now) place word.now }
+    {
+        self.word_or_empty(place) == word
     }
 }
