@@ -1,3 +1,4 @@
 mod Fib
 mod Rows
 pub mod EntryLemmas
+pub mod Values

@@ -20,13 +20,13 @@ fn goes_on<R: StarRing, S: SymbolSource<R>>(source: &S, p: u8, strands: &[u8], a
     requires strands { All (λ x. x < (S.given source.now).count) strands.now }
     ensures { result ≡ spec_goes_on (symbols_of (R.ring (S.base source.now)) R.held (S.given source.now)) p strands.now at.now }
 {
-    match (strands, at) {
-        ([], []) => true,
-        ([s, ss @ ..], [x, xs @ ..]) => {
-            *x < source.count() && source.allows(p, *s, *x) && goes_on(source, *x, ss, xs)
-        }
-        _ => false,
-    }
+    let [s, ss @ ..] = strands else {
+        return at.is_empty();
+    };
+    let [x, xs @ ..] = at else {
+        return false;
+    };
+    *x < source.count() && source.allows(p, *s, *x) && goes_on(source, *x, ss, xs)
 }
 
 /// Whether this is a path over the strands.
@@ -70,4 +70,34 @@ fn acted_term<R: StarRing, S: SymbolSource<R>>(
     let place = Place { p: labels[k - 1], a: strands[k - 1], b: strands[k], y: labels[k + 1] };
     let by = kernel(source, operator, &place, t, labels[k])?;
     term_added(source.ring(), &by, &old, sum)
+}
+
+/// The new value at a path over the strands that the operator leaves.
+#[tactic(auto, using(ring_laws::proofs::StatedLemmas::steps_one, ring_laws::proofs::StatedLemmas::steps_none))]
+fn acted_at<R: StarRing, S: SymbolSource<R>>(
+    source: &S,
+    strands: &[u8],
+    after: &[u8],
+    k: usize,
+    operator: Operator,
+    vector: &CombVector<R>,
+    path: &Path,
+) -> Result<R::Elem, Overflow>
+    requires gap { IsGap (S.given source.now).count strands.now k }
+    requires after { All (λ s. s < (S.given source.now).count) after.now }
+    requires charge { charge_below (S.given source.now).count operator }
+    requires along { IsAlong (S.given source.now).count (length strands.now) path.now.items }
+    requires members { AreMembers (R.ring (S.base source.now)) vector.now }
+    ensures value { let c = symbols_of (R.ring (S.base source.now)) R.held (S.given source.now) in
+        Gives result (spec_acted_at c strands.now after.now k (kernel_at c operator) (vector_of c.ring vector.now) path.now.items) }
+    ensures member { IfOk result (λ z. IsTrue ((R.ring (S.base source.now)).member z)) }
+{
+    if !is_path(source, after, path.as_slice()) {
+        return Ok(source.ring().zero());
+    }
+    let mut sum = source.ring().zero();
+    for t in 0..source.count() {
+        sum = acted_term(source, strands, k, operator, vector, path, t, &sum)?;
+    }
+    Ok(sum)
 }
