@@ -1,18 +1,22 @@
 //! One step of the engine: an operator at a gap of a comb vector.
 
-ghost use Rattle.std.specs.Prelude.{◌≡◌, ◌<◌, ◌≤◌, ◌+◌, ◌-◌, ℕ, List, All, IsTrue, IfOk, length, true};
+ghost use Rattle.std.specs.Prelude.{◌≡◌, ◌<◌, ◌≤◌, ◌+◌, ◌-◌, ℕ, List, All, IsTrue, IfOk, OnOk, IsErrOf, length, true, is_some, Some, None, if◌then◌else◌};
+ghost use Rattle.std.specs.Str.{bytes_eq};
+ghost use Rattle.std.specs.Map.{keys_of};
 ghost use Rattle.ring_laws.specs.Stated.{Gives};
 ghost use Rattle.symbol_table.specs.Symbols.{symbols_of};
 ghost use Rattle.comb_laws.specs.Paths.{goes_on as spec_goes_on, is_path as spec_is_path};
-ghost use Rattle.comb_laws.specs.Entries.{vector_of, AreMembers, IsAlong};
+ghost use Rattle.comb_laws.specs.Entries.{vector_of, entry_at, kept_of, gathered, among, items_of, AreMembers, IsAlong, AreAlong};
+ghost use Rattle.comb_laws.specs.Operators.{acted};
 ghost use Rattle.comb_laws.specs.Evaluated.{acted_step, acted_at as spec_acted_at};
-ghost use Rattle.comb_laws.specs.Operations.{kernel_at, charge_below, IsGap};
+ghost use Rattle.comb_laws.specs.Operations.{kernel_of, kernel_at, charge_below, IsGap};
 
 use crate::kernel::{kernel, Operator, Place};
 use crate::source::SymbolSource;
 use crate::terms::term_added;
-use crate::vector::{value_at, with_label, CombVector, Path};
+use crate::vector::{copy_of, value_at, with_label, CombVector, Path};
 use ring_laws::{is_zero, Overflow, StarRing};
+use std::alloc::{AllocError, Global};
 
 /// Whether these labels, after p, go along the strands.
 fn goes_on<R: StarRing, S: SymbolSource<R>>(source: &S, p: u8, strands: &[u8], at: &[u8]) -> bool
@@ -100,4 +104,21 @@ fn acted_at<R: StarRing, S: SymbolSource<R>>(
         sum = acted_term(source, strands, k, operator, vector, path, t, &sum)?;
     }
     Ok(sum)
+}
+
+/// Gives a path its value, unless that is zero.
+fn put_unless_zero<R: StarRing>(
+    ring: &R,
+    vector: &mut CombVector<R>,
+    path: &Path,
+    value: R::Elem,
+) -> Result<(), AllocError>
+    requires { IsTrue ((R.ring ring.now).member value) }
+    ensures { OnOk result ((x : List ℕ) → entry_at vector.new x ≡ (if R.held.is_zero value then entry_at vector.old x
+        else (if bytes_eq path.now.items x then Some value else entry_at vector.old x))) }
+{
+    if is_zero(ring, &value) {
+        return Ok(());
+    }
+    vector.put(copy_of(path), value)
 }
