@@ -1,0 +1,70 @@
+-- Look-ups of a map of paths are those of its entries.
+use Rattle.std.proofs.Common.{◌≡◌, ℕ, suc, ◌+◌, ◌-◌, ◌<◌, Bool, true, false, List, [], ◌∷◌, ◌++◌, Option, Some, None, cond, refl, ap, sym, subst, ◌∙◌, append_assoc, arith, slice_set}
+use Rattle.std.specs.Prelude.{if◌then◌else◌}
+use Rattle.std.specs.Str.{bytes_eq}
+use Rattle.std.specs.Map.{lookup, keys_of}
+use Rattle.std.specs.BTreeMap.{is_at}
+use Rattle.std.specs.Ordering.{nat_cmp, is_eq}
+use Rattle.std.specs.Cmp.Lexicographic.{slice_cmp}
+use Rattle.std.proofs.lemmas.Map.Text.{is_eq-slice_cmp}
+use Rattle.arrayvec.specs.ArrayVec.{ArrayVec}
+use Rattle.std.specs.List.{All, AllByRecursion}
+use Rattle.std.proofs.lemmas.List.Elements.{recursion_from_All}
+use Rattle.ring_laws.proofs.StatedLemmas.{some_inj}
+use Rattle.comb_laws.specs.Paths.{Path}
+use Rattle.comb_laws.specs.Entries.{entry_at, items_of, row_from, row_of, targets_of}
+
+pub lookup_is : {E : Type 0} (es : List (ArrayVec ℕ × E)) (x : List ℕ) → lookup (is_at (λ (k : ArrayVec ℕ). slice_cmp nat_cmp x k.items)) es ≡ entry_at es x
+lookup_is [] x = refl
+lookup_is (e ∷ es) x = rw (is_eq-slice_cmp x e.0.items, lookup_is es x) refl
+
+-- a map with one more value
+pub put_is : {E : Type 0} (new old : List (ArrayVec ℕ × E)) (p x : List ℕ) (v : E)
+    → lookup (is_at (λ (k : ArrayVec ℕ). slice_cmp nat_cmp x k.items)) new ≡ cond (is_eq (slice_cmp nat_cmp p x)) (Some v) (lookup (is_at (λ (k : ArrayVec ℕ). slice_cmp nat_cmp x k.items)) old)
+    → entry_at new x ≡ (if bytes_eq p x then Some v else entry_at old x)
+put_is new old p x v h = sym (lookup_is new x) ∙ (h ∙ (λ j. cond (is_eq-slice_cmp p x j) (Some v) (lookup_is old x j)))
+
+-- what holds of every value holds of the one at a path
+entry_by : {E : Type 0} (P : E → Type 0) (es : List (ArrayVec ℕ × E)) (x : List ℕ) (v : E) → AllByRecursion (λ (e : ArrayVec ℕ × E). P e.1) es → Some v ≡ entry_at es x → P v
+entry_by P [] x v all e = absurd (cc)
+entry_by {E} P (e ∷ es) x v all is = pick (bytes_eq x e.0.items) is (entry_by P es x v all.1)
+  where
+    pick : (b : Bool) → Some v ≡ (if b then Some e.1 else entry_at es x) → (Some v ≡ entry_at es x → P v) → P v
+    pick true same later = subst P (sym (some_inj v e.1 same)) all.0
+    pick false same later = later same
+
+pub entry_holds : {E : Type 0} (P : E → Type 0) (es : List (ArrayVec ℕ × E)) (x : List ℕ) (v : E) → All (λ (e : ArrayVec ℕ × E). P e.1) es → Some v ≡ entry_at es x → P v
+entry_holds {E} P es x v all is = entry_by P es x v (recursion_from_All (λ (e : ArrayVec ℕ × E). P e.1) es all) is
+
+one_less : (t n : ℕ) → t < n → n - t ≡ suc (n - (t + 1))
+one_less t n h = omega arith
+
+items_of-append : (ps : List (ArrayVec ℕ)) (p : ArrayVec ℕ) → items_of (ps ++ p ∷ []) ≡ items_of ps ++ p.items ∷ []
+items_of-append [] p = refl
+items_of-append (q ∷ ps) p = ap (λ xs. q.items ∷ xs) (items_of-append ps p)
+
+-- one more path of a row
+pub row_one : (ps : List (ArrayVec ℕ)) (p : ArrayVec ℕ) (u n k : ℕ) (x : Path) → u < n → p.items ≡ slice_set x k u → items_of (ps ++ p ∷ []) ++ row_from (u + 1) (n - (u + 1)) k x ≡ items_of ps ++ row_from u (n - u) k x
+row_one ps p u n k x h e =
+    ap (λ xs. xs ++ row_from (u + 1) (n - (u + 1)) k x) (items_of-append ps p)
+    ∙ (append_assoc (items_of ps) (p.items ∷ []) (row_from (u + 1) (n - (u + 1)) k x) ∙ rw (one_less u n h, e) refl)
+
+keys_by : {E : Type 0} (P : ArrayVec ℕ → Type 0) (es : List (ArrayVec ℕ × E)) → AllByRecursion (λ (e : ArrayVec ℕ × E). P e.0) es → AllByRecursion P (keys_of es)
+keys_by P [] all = tt
+keys_by P (e ∷ es) all = (all.0, keys_by P es all.1)
+
+-- what holds of each entry's path holds of each path
+pub keys_hold : {E : Type 0} (P : ArrayVec ℕ → Type 0) (es : List (ArrayVec ℕ × E)) (keys : List (ArrayVec ℕ)) → All (λ (e : ArrayVec ℕ × E). P e.0) es → keys ≡ keys_of es → AllByRecursion P keys
+keys_hold {E} P es keys all is = rw is (keys_by P es (recursion_from_All (λ (e : ArrayVec ℕ × E). P e.0) es all))
+
+-- one more path's row, of the targets
+pub targets_one : (count k : ℕ) (ps new : List (ArrayVec ℕ)) (left rest all : List (ArrayVec ℕ)) (p : ArrayVec ℕ) → left ≡ p ∷ rest
+    → items_of ps ++ targets_of count k left ≡ targets_of count k all → items_of new ≡ items_of ps ++ row_of count k p.items
+    → items_of new ++ targets_of count k rest ≡ targets_of count k all
+targets_one count k ps new left rest all p is before made =
+    ap (λ xs. xs ++ targets_of count k rest) made
+    ∙ (append_assoc (items_of ps) (row_of count k p.items) (targets_of count k rest) ∙ (ap (λ ls. items_of ps ++ targets_of count k ls) (sym is) ∙ before))
+
+-- before the first path
+pub targets_none : (count k : ℕ) (ps keys all : List (ArrayVec ℕ)) → ps ≡ [] → keys ≡ all → items_of ps ++ targets_of count k keys ≡ targets_of count k all
+targets_none count k ps keys all none same = rw (none, same) refl

@@ -1,0 +1,7 @@
+pub mod Amplitudes
+pub mod Entries
+pub mod Evaluated
+pub mod Operations
+pub mod Operators
+pub mod Paths
+pub mod Plans
