@@ -1,18 +1,22 @@
 //! One step of the engine: an operator at a gap of a comb vector.
 
-ghost use Rattle.std.specs.Prelude.{◌≡◌, ◌<◌, ◌≤◌, ◌+◌, ◌-◌, ℕ, List, All, IsTrue, IfOk, length, true};
+ghost use Rattle.std.specs.Prelude.{◌≡◌, ◌<◌, ◌≤◌, ◌+◌, ◌-◌, ℕ, List, All, IsTrue, IfOk, OnOk, IsErrOf, length, true, is_some, Some, None, if◌then◌else◌};
+ghost use Rattle.std.specs.Str.{bytes_eq};
+ghost use Rattle.std.specs.Map.{keys_of};
 ghost use Rattle.ring_laws.specs.Stated.{Gives};
 ghost use Rattle.symbol_table.specs.Symbols.{symbols_of};
 ghost use Rattle.comb_laws.specs.Paths.{goes_on as spec_goes_on, is_path as spec_is_path};
-ghost use Rattle.comb_laws.specs.Entries.{vector_of, AreMembers, IsAlong};
+ghost use Rattle.comb_laws.specs.Entries.{vector_of, entry_at, kept_of, gathered, among, items_of, AreMembers, IsAlong, AreAlong};
+ghost use Rattle.comb_laws.specs.Operators.{acted};
 ghost use Rattle.comb_laws.specs.Evaluated.{acted_step, acted_at as spec_acted_at};
-ghost use Rattle.comb_laws.specs.Operations.{kernel_at, charge_below, IsGap};
+ghost use Rattle.comb_laws.specs.Operations.{kernel_of, kernel_at, charge_below, IsGap};
 
 use crate::kernel::{kernel, Operator, Place};
 use crate::source::SymbolSource;
 use crate::terms::term_added;
-use crate::vector::{value_at, with_label, CombVector, Path};
+use crate::vector::{copy_of, value_at, with_label, CombVector, Path};
 use ring_laws::{is_zero, Overflow, StarRing};
+use std::alloc::{AllocError, Global};
 
 /// Whether these labels, after p, go along the strands.
 fn goes_on<R: StarRing, S: SymbolSource<R>>(source: &S, p: u8, strands: &[u8], at: &[u8]) -> bool
@@ -20,13 +24,13 @@ fn goes_on<R: StarRing, S: SymbolSource<R>>(source: &S, p: u8, strands: &[u8], a
     requires strands { All (λ x. x < (S.given source.now).count) strands.now }
     ensures { result ≡ spec_goes_on (symbols_of (R.ring (S.base source.now)) R.held (S.given source.now)) p strands.now at.now }
 {
-    match (strands, at) {
-        ([], []) => true,
-        ([s, ss @ ..], [x, xs @ ..]) => {
-            *x < source.count() && source.allows(p, *s, *x) && goes_on(source, *x, ss, xs)
-        }
-        _ => false,
-    }
+    let [s, ss @ ..] = strands else {
+        return at.is_empty();
+    };
+    let [x, xs @ ..] = at else {
+        return false;
+    };
+    *x < source.count() && source.allows(p, *s, *x) && goes_on(source, *x, ss, xs)
 }
 
 /// Whether this is a path over the strands.
@@ -70,4 +74,51 @@ fn acted_term<R: StarRing, S: SymbolSource<R>>(
     let place = Place { p: labels[k - 1], a: strands[k - 1], b: strands[k], y: labels[k + 1] };
     let by = kernel(source, operator, &place, t, labels[k])?;
     term_added(source.ring(), &by, &old, sum)
+}
+
+/// The new value at a path over the strands that the operator leaves.
+#[tactic(auto, using(ring_laws::proofs::StatedLemmas::steps_one, ring_laws::proofs::StatedLemmas::steps_none))]
+fn acted_at<R: StarRing, S: SymbolSource<R>>(
+    source: &S,
+    strands: &[u8],
+    after: &[u8],
+    k: usize,
+    operator: Operator,
+    vector: &CombVector<R>,
+    path: &Path,
+) -> Result<R::Elem, Overflow>
+    requires gap { IsGap (S.given source.now).count strands.now k }
+    requires after { All (λ s. s < (S.given source.now).count) after.now }
+    requires charge { charge_below (S.given source.now).count operator }
+    requires along { IsAlong (S.given source.now).count (length strands.now) path.now.items }
+    requires members { AreMembers (R.ring (S.base source.now)) vector.now }
+    ensures value { let c = symbols_of (R.ring (S.base source.now)) R.held (S.given source.now) in
+        Gives result (spec_acted_at c strands.now after.now k (kernel_at c operator) (vector_of c.ring vector.now) path.now.items) }
+    ensures member { IfOk result (λ z. IsTrue ((R.ring (S.base source.now)).member z)) }
+{
+    if !is_path(source, after, path.as_slice()) {
+        return Ok(source.ring().zero());
+    }
+    let mut sum = source.ring().zero();
+    for t in 0..source.count() {
+        sum = acted_term(source, strands, k, operator, vector, path, t, &sum)?;
+    }
+    Ok(sum)
+}
+
+/// Gives a path its value, unless that is zero.
+fn put_unless_zero<R: StarRing>(
+    ring: &R,
+    vector: &mut CombVector<R>,
+    path: &Path,
+    value: R::Elem,
+) -> Result<(), AllocError>
+    requires { IsTrue ((R.ring ring.now).member value) }
+    ensures { OnOk result ((x : List ℕ) → entry_at vector.new x ≡ (if R.held.is_zero value then entry_at vector.old x
+        else (if bytes_eq path.now.items x then Some value else entry_at vector.old x))) }
+{
+    if is_zero(ring, &value) {
+        return Ok(());
+    }
+    vector.put(copy_of(path), value)
 }

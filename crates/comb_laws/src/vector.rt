@@ -83,15 +83,23 @@ pub(crate) fn value_at<R: StarRing>(ring: &R, vector: &CombVector<R>, path: &Pat
     }
 }
 
+/// The same path again.
+pub(crate) fn copy_of(path: &Path) -> Path
+    ensures { result.items ≡ path.now.items }
+{
+    let mut copied = Path::new();
+    for x in path.as_slice() {
+        copied.push(*x);
+    }
+    copied
+}
+
 /// The path with another label at one place.
 pub(crate) fn with_label(path: &Path, k: usize, label: u8) -> Path
     requires { k < length path.now.items }
     ensures { result.items ≡ slice_set path.now.items k label }
 {
-    let mut changed = Path::new();
-    for x in path.as_slice() {
-        changed.push(*x);
-    }
+    let mut changed = copy_of(path);
     changed.as_mut_slice()[k] = label;
     changed
 }

@@ -3,3 +3,4 @@ pub mod FaultLemmas
 pub mod NameLemmas
 pub mod PassLemmas
 pub mod UnitLemmas
+pub mod Worked

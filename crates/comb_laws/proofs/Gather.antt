@@ -1,0 +1,220 @@
+-- The entries of a vector that is gathered path by path.
+use Rattle.std.proofs.Common.{◌≡◌, ℕ, zero, suc, ◌+◌, ◌<◌, ◌≤◌, Bool, true, false, ◌||◌, List, [], ◌∷◌, ◌++◌, map, length, get_or, set, take, Option, unwrap_or, ◌⊎◌, inl, inr, Some, None, refl, ap, sym, ◌∙◌, subst, arith}
+use mathlib.Core.Path.{fun_ext}
+use Rattle.std.specs.Prelude.{is_some, if◌then◌else◌, ◌&&◌, ◌==◌, nat_lt, IsTrue}
+use Rattle.std.specs.Str.{bytes_eq}
+use Rattle.std.specs.Bool.{Decides}
+use Rattle.std.specs.List.{list_any, flat_map, range_with_len, AllByRecursion, All}
+use Rattle.std.proofs.lemmas.List.{set-set, set-get_or, take_more, map-append, length-set}
+use Rattle.std.proofs.lemmas.List.Elements.{All-set, All-from_recursion, recursion_from_All}
+use Rattle.std.proofs.lemmas.List.Folds.{list_any-append}
+use Rattle.std.proofs.lemmas.Bool.Decides.{leb_tells, nat_tests}
+use Rattle.std.proofs.lemmas.Slice.Eq.{bytes_eq-Decides}
+use Rattle.std.specs.Map.{keys_of}
+use Rattle.arrayvec.specs.ArrayVec.{ArrayVec}
+use Rattle.ring_laws.specs.Ring.{Ring, Held, RingLaws}
+use Rattle.ring_laws.specs.Sums.{total}
+use Rattle.ring_laws.specs.Stated.{steps}
+use Rattle.ring_laws.proofs.SumLemmas.{total_none}
+use Rattle.symbol_table.specs.Symbols.{Symbols}
+use Rattle.comb_laws.specs.Operators.{Kernel, term_at, acted}
+use Rattle.comb_laws.specs.Evaluated.{KernelAt, acted_step, acted_at}
+use Rattle.comb_laws.specs.Paths.{Path, Vector, goes_on, is_path}
+use Rattle.comb_laws.specs.Entries.{row_from, entry_at, vector_of, kept_of, among, row_of, targets_of, items_of, gathered, IsAlong, AreAlong, AreMembers}
+
+pub same_path : (a x : Path) → bytes_eq a x ≡ true → a ≡ x
+same_path a x = (bytes_eq-Decides a x).0
+
+one_among : (a x : Path) → among x (a ∷ []) ≡ bytes_eq a x
+one_among a x = elim (bytes_eq a x) as (λ b. (b || false) ≡ b) [ true ↦ refl | false ↦ refl ]
+
+among_more : (x a : Path) (done : List Path) → among x (done ++ a ∷ []) ≡ (among x done || bytes_eq a x)
+among_more x a done = rw (list_any-append (λ y. bytes_eq y x) done (a ∷ []), one_among a x) refl
+
+step_by : {E : Type 0} (h : Held E) (P : Vector E) (a x : Path) (v : E) (o n : Option E) (z d b : Bool) → v ≡ P a → h.is_zero v ≡ z → (b ≡ true → a ≡ x)
+    → n ≡ (if z then o else (if b then Some v else o)) → o ≡ (if d then kept_of h (P x) else None) → n ≡ (if d || b then kept_of h (P x) else None)
+step_by h P a x v o n true true b is test same new old = new ∙ old
+step_by h P a x v o n true false true is test same new old = let e : P x ≡ v = ap P (sym (same refl)) ∙ sym is in rw (e, test) (new ∙ old)
+step_by h P a x v o n true false false is test same new old = new ∙ old
+step_by h P a x v o n false true true is test same new old = let e : P x ≡ v = ap P (sym (same refl)) ∙ sym is in rw (e, test) new
+step_by h P a x v o n false true false is test same new old = new ∙ old
+step_by h P a x v o n false false true is test same new old = let e : P x ≡ v = ap P (sym (same refl)) ∙ sym is in rw (e, test) new
+step_by h P a x v o n false false false is test same new old = new ∙ old
+
+-- one more path is done
+pub gathered_step : {E : Type 0} (h : Held E) (P : Vector E) (old new : Path → Option E) (done : List Path) (a : Path) (v : E) → v ≡ P a
+    → ((x : Path) → new x ≡ (if h.is_zero v then old x else (if bytes_eq a x then Some v else old x)))
+    → ((x : Path) → old x ≡ gathered h P done x) → (x : Path) → new x ≡ gathered h P (done ++ a ∷ []) x
+gathered_step h P old new done a v is made before x =
+    step_by h P a x v (old x) (new x) (h.is_zero v) (among x done) (bytes_eq a x) is refl (same_path a x) (made x) (before x)
+    ∙ ap (λ b. if b then kept_of h (P x) else None) (sym (among_more x a done))
+
+or_true : (b c : Bool) → c ≡ true → (b || c) ≡ true
+or_true true c h = refl
+or_true false c h = h
+
+or_false : (b c : Bool) → (b || c) ≡ false → (b ≡ false) × (c ≡ false)
+or_false true c h = absurd (cc)
+or_false false c h = (refl, h)
+
+-- a path is among those of a row where it agrees with the row's path at all other places
+among_range : (x y : Path) (k a n u : ℕ) → a ≤ u → u < a + n → set y k u ≡ x → among x (map (λ l. set y k l) (range_with_len a n)) ≡ true
+among_range x y k a zero u low high e = absurd (omega arith)
+among_range x y k a (suc n) u low high e =
+    elim (leb_tells u a) [
+      | inl here ↦
+          let same : set y k a ≡ x = ap (λ (l : ℕ). set y k l) (omega arith) ∙ e in
+          rw ((bytes_eq-Decides (set y k a) x).1 same) refl
+      | inr above ↦ or_true (bytes_eq (set y k a) x) _ (among_range x y k (a + 1) n u (omega arith) (omega arith) e)
+    ]
+
+entry_none : {E : Type 0} (b : Bool) (v : E) (o : Option E) → b ≡ false → o ≡ None → (if b then Some v else o) ≡ None
+entry_none b v o h k = rw (h, k) refl
+
+false_unless : (b : Bool) → (b ≡ true → ⊥) → b ≡ false
+false_unless true h = absurd (h refl)
+false_unless false h = refl
+
+not_target : (count k t : ℕ) (y x : Path) → get_or x k 0 < count → among x (row_of count k y) ≡ false → bytes_eq (set x k t) y ≡ false
+not_target count k t y x low none =
+    false_unless (bytes_eq (set x k t) y) (λ h.
+    let u = get_or x k 0 in
+    let back : set y k u ≡ x = ap (λ (z : List ℕ). set z k u) (sym (same_path (set x k t) y h)) ∙ set-set x k t u ∙ set-get_or x k 0 in
+    let there : among x (row_of count k y) ≡ true = among_range x y k 0 count u (omega arith) (omega arith) back in
+    cc)
+
+-- no entry agrees with x at all places but k where x is no target
+pub none_there : {E : Type 0} (count k t : ℕ) (es : List (ArrayVec ℕ × E)) (x : Path) → get_or x k 0 < count → among x (targets_of count k (keys_of es)) ≡ false → entry_at es (set x k t) ≡ None
+none_there count k t [] x low none = refl
+none_there count k t (e ∷ es) x low none =
+    let apart = or_false (among x (row_of count k e.0.items)) (among x (targets_of count k (keys_of es))) (sym (list_any-append (λ y. bytes_eq y x) (row_of count k e.0.items) (targets_of count k (keys_of es))) ∙ none) in
+    entry_none (bytes_eq (set x k t) e.0.items) e.1 (entry_at es (set x k t)) (not_target count k t e.0.items x low apart.0) (none_there count k t es x low apart.1)
+
+nat_lt_true : (x n : ℕ) → nat_lt x n ≡ true → x < n
+nat_lt_true x n h = grind (arith, nat_tests)
+
+pub and_true : (b c : Bool) → (b && c) ≡ true → (b ≡ true) × (c ≡ true)
+and_true true c h = (refl, h)
+and_true false c h = absurd (cc)
+
+-- the labels of a path are below the count
+goes_low : {E : Type 0} (c : Symbols E) (p : ℕ) (ss xs : List ℕ) (k : ℕ) → goes_on c p ss xs ≡ true → k < length ss → get_or xs k 0 < c.count
+goes_low c p [] xs k h low = absurd (omega arith)
+goes_low c p (s ∷ ss) [] k h low = absurd (cc)
+goes_low c p (s ∷ ss) (x ∷ xs) zero h low = nat_lt_true x c.count (and_true (nat_lt x c.count) (c.fuse p s x && goes_on c x ss xs) h).0
+goes_low c p (s ∷ ss) (x ∷ xs) (suc k) h low =
+    goes_low c x ss xs k (and_true (c.fuse p s x) (goes_on c x ss xs) (and_true (nat_lt x c.count) (c.fuse p s x && goes_on c x ss xs) h).1).1 (omega arith)
+
+pub path_low : {E : Type 0} (c : Symbols E) (ss : List ℕ) (x : Path) (k : ℕ) → is_path c ss x ≡ true → 0 < k → k < length ss → get_or x k 0 < c.count
+path_low c ss [] k h pos low = absurd (cc)
+path_low c ss (x ∷ xs) zero h pos low = absurd (omega arith)
+path_low c ss (x ∷ xs) (suc k) h pos low = goes_low c 0 ss xs k (and_true (x == 0) (goes_on c 0 ss xs) h).1 (omega arith)
+
+steps_same : {E : Type 0} (step : ℕ → E → Option E) → ((t : ℕ) (s : E) → step t s ≡ Some s) → (t n : ℕ) (s : E) → steps step t n s ≡ Some s
+steps_same step same t zero s = refl
+steps_same step same t (suc n) s = rw (same t s) (steps_same step same (t + 1) n s)
+
+along_row : (count n : ℕ) (y : Path) (k u m : ℕ) → u + m ≤ count → IsAlong count n y → AllByRecursion (IsAlong count n) (row_from u m k y)
+along_row count n y k u zero few along = tt
+along_row count n y k u (suc m) few along = (
+  record {
+    long = length-set y k u ∙ along.long;
+    labels = All-set (λ l. l < count) y k u (omega arith) along.labels;
+  },
+  along_row count n y k (u + 1) m (omega arith) along,
+)
+
+along_append : {X : Type 0} (P : X → Type 0) (xs ys : List X) → AllByRecursion P xs → AllByRecursion P ys → AllByRecursion P (xs ++ ys)
+along_append P [] ys a b = b
+along_append P (x ∷ xs) ys a b = (a.0, along_append P xs ys a.1 b)
+
+targets_along : {E : Type 0} (count n k : ℕ) (es : List (ArrayVec ℕ × E)) → AllByRecursion (λ (e : ArrayVec ℕ × E). IsAlong count n e.0.items) es → AllByRecursion (IsAlong count n) (targets_of count k (keys_of es))
+targets_along count n k [] along = tt
+targets_along count n k (e ∷ es) along =
+    along_append (IsAlong count n) (row_of count k e.0.items) (targets_of count k (keys_of es)) (along_row count n e.0.items k 0 count (omega arith) along.0) (targets_along count n k es along.1)
+
+items_along : (P : Path → Type 0) (ps : List (ArrayVec ℕ)) → AllByRecursion P (items_of ps) → AllByRecursion (λ p. P p.items) ps
+items_along P [] h = tt
+items_along P (p ∷ ps) h = (h.0, items_along P ps h.1)
+
+-- each target is along the strands
+pub all_along : {E : Type 0} (count n k : ℕ) (es : List (ArrayVec ℕ × E)) (ps : List (ArrayVec ℕ)) → AreAlong count n es → items_of ps ≡ targets_of count k (keys_of es) → All (λ p. IsAlong count n p.items) ps
+all_along {E} count n k es ps along is =
+    All-from_recursion (λ p. IsAlong count n p.items) ps (items_along (IsAlong count n) ps
+    (rw is (targets_along count n k es (recursion_from_All (λ (e : ArrayVec ℕ × E). IsAlong count n e.0.items) es along))))
+
+one_of : (b c : Bool) → (b || c) ≡ true → (b ≡ true) ⊎ (c ≡ true)
+one_of true c h = inl refl
+one_of false c h = inr h
+
+-- each item fits at one more path
+pub fits_step : {E : Type 0} (S : Path → Option E) (done : List Path) (a : Path) (v : E) → S a ≡ Some v → ((x : Path) → among x done ≡ true → is_some (S x) ≡ true) → (x : Path) → among x (done ++ a ∷ []) ≡ true → is_some (S x) ≡ true
+fits_step {E} S done a v e before x h =
+    elim (one_of (among x done) (bytes_eq a x) (sym (among_more x a done) ∙ h)) [
+      | inl earlier ↦ before x earlier
+      | inr here ↦ subst (λ (z : Path). is_some (S z) ≡ true) (same_path a x here) (ap is_some e)
+    ]
+
+-- one more path of those that are taken
+pub items_more : (ps : List (ArrayVec ℕ)) (i : ℕ) (p : ArrayVec ℕ) → p ≡ get_or ps i p → i < length ps → items_of (take (i + 1) ps) ≡ items_of (take i ps) ++ p.items ∷ []
+items_more ps i p is below =
+    ap items_of (take_more ps i p below) ∙ (map-append (λ q. q.items) (take i ps) (get_or ps i p ∷ []) ∙ ap (λ (q : ArrayVec ℕ). items_of (take i ps) ++ q.items ∷ []) (sym is))
+
+module _ {E : Type 0} (c : Symbols E) (laws : RingLaws c.ring c.held) where
+  zero_is_zero : c.held.is_zero c.ring.zero ≡ true
+  zero_is_zero = (laws.is_zero_is c.ring.zero laws.zero_is).1 refl
+
+  kept_zero : (v : E) → v ≡ c.ring.zero → kept_of c.held v ≡ None
+  kept_zero v e = rw (e, zero_is_zero) refl
+
+  nothing_there : (x : E) (o : Option E) → o ≡ None → c.ring.product x (unwrap_or o c.ring.zero) ≡ c.ring.zero
+  nothing_there x o e = rw e (laws.product-zero x)
+
+  nothing_by : (strands after : List ℕ) (k : ℕ) (kernel : Kernel E) (es : List (ArrayVec ℕ × E)) (x : Path) → 0 < k → k < length after → among x (targets_of c.count k (keys_of es)) ≡ false → (b : Bool) → is_path c after x ≡ b
+      → (if b then total c.ring c.count (term_at c strands k kernel (vector_of c.ring es) x) else c.ring.zero) ≡ c.ring.zero
+  nothing_by strands after k kernel es x pos high none false is = refl
+  nothing_by strands after k kernel es x pos high none true is =
+      total_none laws c.count (term_at c strands k kernel (vector_of c.ring es) x)
+      (λ t _. nothing_there _ (entry_at es (set x k t)) (none_there c.count k t es x (path_low c after x k is pos high) none))
+
+  -- the new value is zero at a path that is no target
+  acted_nothing : (strands after : List ℕ) (k : ℕ) (kernel : Kernel E) (es : List (ArrayVec ℕ × E)) (x : Path) → 0 < k → k < length after → among x (targets_of c.count k (keys_of es)) ≡ false → acted c strands after k kernel (vector_of c.ring es) x ≡ c.ring.zero
+  acted_nothing strands after k kernel es x pos high none = nothing_by strands after k kernel es x pos high none (is_path c after x) refl
+
+  gathered_by : (strands after : List ℕ) (k : ℕ) (kernel : Kernel E) (es : List (ArrayVec ℕ × E)) (x : Path) → 0 < k → k < length after → (b : Bool) → among x (targets_of c.count k (keys_of es)) ≡ b
+      → (if b then kept_of c.held (acted c strands after k kernel (vector_of c.ring es) x) else None) ≡ kept_of c.held (acted c strands after k kernel (vector_of c.ring es) x)
+  gathered_by strands after k kernel es x pos high true is = refl
+  gathered_by strands after k kernel es x pos high false is = sym (kept_zero _ (acted_nothing strands after k kernel es x pos high is))
+
+  -- what is gathered at the targets is kept of the whole vector
+  pub gathered_all : (strands after : List ℕ) (k : ℕ) (kernel : Kernel E) (es : List (ArrayVec ℕ × E)) (x : Path) → 0 < k → k < length after
+      → gathered c.held (acted c strands after k kernel (vector_of c.ring es)) (targets_of c.count k (keys_of es)) x ≡ kept_of c.held (acted c strands after k kernel (vector_of c.ring es) x)
+  gathered_all strands after k kernel es x pos high = gathered_by strands after k kernel es x pos high (among x (targets_of c.count k (keys_of es))) refl
+
+  step_nothing : (by : Option E) (old s : E) (o : Option E) (n : E → Option E) → o ≡ None → (if c.held.is_zero (unwrap_or o c.ring.zero) then Some s else n old) ≡ Some s
+  step_nothing by old s o n e = rw (e, zero_is_zero) refl
+
+  fits_nothing_by : (strands after : List ℕ) (k : ℕ) (kernel : KernelAt E) (es : List (ArrayVec ℕ × E)) (x : Path) → 0 < k → k < length after → among x (targets_of c.count k (keys_of es)) ≡ false → (b : Bool) → is_path c after x ≡ b
+      → is_some (if b then steps (acted_step c strands k kernel (vector_of c.ring es) x) 0 c.count c.ring.zero else Some c.ring.zero) ≡ true
+  fits_nothing_by strands after k kernel es x pos high none false is = refl
+  fits_nothing_by strands after k kernel es x pos high none true is =
+      ap is_some (steps_same (acted_step c strands k kernel (vector_of c.ring es) x)
+      (λ t s. rw (none_there c.count k t es x (path_low c after x k is pos high) none, zero_is_zero) refl) 0 c.count c.ring.zero)
+
+  fits_by : (strands after : List ℕ) (k : ℕ) (kernel : KernelAt E) (es : List (ArrayVec ℕ × E)) (x : Path) → 0 < k → k < length after → (b : Bool) → among x (targets_of c.count k (keys_of es)) ≡ b
+      → (b ≡ true → is_some (acted_at c strands after k kernel (vector_of c.ring es) x) ≡ true) → is_some (acted_at c strands after k kernel (vector_of c.ring es) x) ≡ true
+  fits_by strands after k kernel es x pos high true is h = h refl
+  fits_by strands after k kernel es x pos high false is h = fits_nothing_by strands after k kernel es x pos high is (is_path c after x) refl
+
+  -- where each item fits at the targets, each fits
+  pub fits_all : (strands after : List ℕ) (k : ℕ) (kernel : KernelAt E) (es : List (ArrayVec ℕ × E)) (x : Path) → 0 < k → k < length after
+      → (among x (targets_of c.count k (keys_of es)) ≡ true → is_some (acted_at c strands after k kernel (vector_of c.ring es) x) ≡ true) → is_some (acted_at c strands after k kernel (vector_of c.ring es) x) ≡ true
+  fits_all strands after k kernel es x pos high h = fits_by strands after k kernel es x pos high (among x (targets_of c.count k (keys_of es))) refl h
+
+  or_kept : (v : E) (b : Bool) → IsTrue (c.ring.member v) → c.held.is_zero v ≡ b → unwrap_or (if b then None else Some v) c.ring.zero ≡ v
+  or_kept v true m is = sym ((laws.is_zero_is v m).0 is)
+  or_kept v false m is = refl
+
+  -- entries that keep a vector are that vector
+  pub vector_known : (es : List (ArrayVec ℕ × E)) (v : Vector E) → ((x : Path) → IsTrue (c.ring.member (v x))) → ((x : Path) → entry_at es x ≡ kept_of c.held (v x)) → vector_of c.ring es ≡ v
+  vector_known es v m h = fun_ext (λ x. ap (λ o. unwrap_or o c.ring.zero) (h x) ∙ or_kept (v x) (c.held.is_zero (v x)) (m x) refl)
