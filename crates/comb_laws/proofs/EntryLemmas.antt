@@ -1,6 +1,6 @@
 -- Look-ups of a map of paths are those of its entries.
 use Rattle.std.proofs.Common.{◌≡◌, ℕ, suc, ◌+◌, ◌-◌, ◌<◌, Bool, true, false, List, [], ◌∷◌, ◌++◌, Option, Some, None, cond, refl, ap, sym, subst, ◌∙◌, append_assoc, arith, slice_set}
-use Rattle.std.specs.Prelude.{if◌then◌else◌}
+use Rattle.std.specs.Prelude.{if◌then◌else◌, is_some, IsSome}
 use Rattle.std.specs.Str.{bytes_eq}
 use Rattle.std.specs.Map.{lookup, keys_of}
 use Rattle.std.specs.BTreeMap.{is_at}
@@ -10,7 +10,6 @@ use Rattle.std.proofs.lemmas.Map.Text.{is_eq-slice_cmp}
 use Rattle.arrayvec.specs.ArrayVec.{ArrayVec}
 use Rattle.std.specs.List.{All, AllByRecursion}
 use Rattle.std.proofs.lemmas.List.Elements.{recursion_from_All}
-use Rattle.ring_laws.proofs.StatedLemmas.{some_inj}
 use Rattle.comb_laws.specs.Paths.{Path}
 use Rattle.comb_laws.specs.Entries.{entry_at, items_of, row_from, row_of, targets_of}
 
@@ -23,18 +22,6 @@ pub put_is : {E : Type 0} (new old : List (ArrayVec ℕ × E)) (p x : List ℕ) 
     → lookup (is_at (λ (k : ArrayVec ℕ). slice_cmp nat_cmp x k.items)) new ≡ cond (is_eq (slice_cmp nat_cmp p x)) (Some v) (lookup (is_at (λ (k : ArrayVec ℕ). slice_cmp nat_cmp x k.items)) old)
     → entry_at new x ≡ (if bytes_eq p x then Some v else entry_at old x)
 put_is new old p x v h = sym (lookup_is new x) ∙ (h ∙ (λ j. cond (is_eq-slice_cmp p x j) (Some v) (lookup_is old x j)))
-
--- what holds of every value holds of the one at a path
-entry_by : {E : Type 0} (P : E → Type 0) (es : List (ArrayVec ℕ × E)) (x : List ℕ) (v : E) → AllByRecursion (λ (e : ArrayVec ℕ × E). P e.1) es → Some v ≡ entry_at es x → P v
-entry_by P [] x v all e = absurd (cc)
-entry_by {E} P (e ∷ es) x v all is = pick (bytes_eq x e.0.items) is (entry_by P es x v all.1)
-  where
-    pick : (b : Bool) → Some v ≡ (if b then Some e.1 else entry_at es x) → (Some v ≡ entry_at es x → P v) → P v
-    pick true same later = subst P (sym (some_inj v e.1 same)) all.0
-    pick false same later = later same
-
-pub entry_holds : {E : Type 0} (P : E → Type 0) (es : List (ArrayVec ℕ × E)) (x : List ℕ) (v : E) → All (λ (e : ArrayVec ℕ × E). P e.1) es → Some v ≡ entry_at es x → P v
-entry_holds {E} P es x v all is = entry_by P es x v (recursion_from_All (λ (e : ArrayVec ℕ × E). P e.1) es all) is
 
 one_less : (t n : ℕ) → t < n → n - t ≡ suc (n - (t + 1))
 one_less t n h = omega arith
@@ -49,13 +36,27 @@ row_one ps p u n k x h e =
     ap (λ xs. xs ++ row_from (u + 1) (n - (u + 1)) k x) (items_of-append ps p)
     ∙ (append_assoc (items_of ps) (p.items ∷ []) (row_from (u + 1) (n - (u + 1)) k x) ∙ rw (one_less u n h, e) refl)
 
-keys_by : {E : Type 0} (P : ArrayVec ℕ → Type 0) (es : List (ArrayVec ℕ × E)) → AllByRecursion (λ (e : ArrayVec ℕ × E). P e.0) es → AllByRecursion P (keys_of es)
-keys_by P [] all = tt
-keys_by P (e ∷ es) all = (all.0, keys_by P es all.1)
+some_is : {A : Type 0} (o : Option A) → is_some o ≡ true → (v : A) × (o ≡ Some v)
+some_is None e = absurd (cc)
+some_is (Some v) e = (v, refl)
 
--- what holds of each entry's path holds of each path
-pub keys_hold : {E : Type 0} (P : ArrayVec ℕ → Type 0) (es : List (ArrayVec ℕ × E)) (keys : List (ArrayVec ℕ)) → All (λ (e : ArrayVec ℕ × E). P e.0) es → keys ≡ keys_of es → AllByRecursion P keys
-keys_hold {E} P es keys all is = rw is (keys_by P es (recursion_from_All (λ (e : ArrayVec ℕ × E). P e.0) es all))
+-- what holds of each path that has a value holds of each key
+pub keys_hold : {E : Type 0} (P : List ℕ → Type 0) (es : List (ArrayVec ℕ × E)) (keys : List (ArrayVec ℕ))
+    → ((x : List ℕ) (v : E) → entry_at es x ≡ Some v → P x)
+    → AllByRecursion (λ (q : ArrayVec ℕ). is_some (lookup (is_at (λ (k : ArrayVec ℕ). slice_cmp nat_cmp q.items k.items)) es) ≡ true) keys → AllByRecursion (λ (p : ArrayVec ℕ). P p.items) keys
+keys_hold P es [] all found = tt
+keys_hold {E} P es (q ∷ keys) all found =
+    let there = some_is (entry_at es q.items) (ap is_some (sym (lookup_is es q.items)) ∙ found.0) in
+    (all q.items there.0 there.1, keys_hold P es keys all found.1)
+
+-- a map's keys are found
+abbrev pub AreFound : {E : Type 0} → List (ArrayVec ℕ × E) → Type 0
+AreFound es = All (λ (q : ArrayVec ℕ). IsSome (lookup (is_at (λ (k : ArrayVec ℕ). slice_cmp nat_cmp q.items k.items)) es)) (keys_of es)
+
+pub keys_found : {E : Type 0} (es : List (ArrayVec ℕ × E)) (keys : List (ArrayVec ℕ)) → keys ≡ keys_of es → AreFound es
+    → AllByRecursion (λ (q : ArrayVec ℕ). is_some (lookup (is_at (λ (k : ArrayVec ℕ). slice_cmp nat_cmp q.items k.items)) es) ≡ true) keys
+keys_found es keys same found =
+    rw same (recursion_from_All (λ (q : ArrayVec ℕ). is_some (lookup (is_at (λ (k : ArrayVec ℕ). slice_cmp nat_cmp q.items k.items)) es) ≡ true) (keys_of es) found)
 
 -- one more path's row, of the targets
 pub targets_one : (count k : ℕ) (ps new : List (ArrayVec ℕ)) (left rest all : List (ArrayVec ℕ)) (p : ArrayVec ℕ) → left ≡ p ∷ rest
