@@ -1,6 +1,6 @@
 -- Look-ups of a map of paths are those of its entries.
 use Rattle.std.proofs.Common.{◌≡◌, ℕ, suc, ◌+◌, ◌-◌, ◌<◌, Bool, true, false, List, [], ◌∷◌, ◌++◌, Option, Some, None, cond, refl, ap, sym, subst, ◌∙◌, append_assoc, arith, slice_set}
-use Rattle.std.specs.Prelude.{if◌then◌else◌, is_some, IsSome}
+use Rattle.std.specs.Prelude.{if◌then◌else◌}
 use Rattle.std.specs.Str.{bytes_eq}
 use Rattle.std.specs.Map.{lookup, keys_of}
 use Rattle.std.specs.BTreeMap.{is_at}
@@ -8,8 +8,8 @@ use Rattle.std.specs.Ordering.{nat_cmp, is_eq}
 use Rattle.std.specs.Cmp.Lexicographic.{slice_cmp}
 use Rattle.std.proofs.lemmas.Map.Text.{is_eq-slice_cmp}
 use Rattle.arrayvec.specs.ArrayVec.{ArrayVec}
-use Rattle.std.specs.List.{All, AllByRecursion}
-use Rattle.std.proofs.lemmas.List.Elements.{recursion_from_All}
+use Rattle.std.specs.List.{AllByRecursion}
+use Rattle.std.proofs.lemmas.Slice.Eq.{bytes_eq-Decides}
 use Rattle.comb_laws.specs.Paths.{Path}
 use Rattle.comb_laws.specs.Entries.{entry_at, items_of, row_from, row_of, targets_of}
 
@@ -36,27 +36,17 @@ row_one ps p u n k x h e =
     ap (λ xs. xs ++ row_from (u + 1) (n - (u + 1)) k x) (items_of-append ps p)
     ∙ (append_assoc (items_of ps) (p.items ∷ []) (row_from (u + 1) (n - (u + 1)) k x) ∙ rw (one_less u n h, e) refl)
 
-some_is : {A : Type 0} (o : Option A) → is_some o ≡ true → (v : A) × (o ≡ Some v)
-some_is None e = absurd (cc)
-some_is (Some v) e = (v, refl)
-
 -- what holds of each path that has a value holds of each key
-pub keys_hold : {E : Type 0} (P : List ℕ → Type 0) (es : List (ArrayVec ℕ × E)) (keys : List (ArrayVec ℕ))
-    → ((x : List ℕ) (v : E) → entry_at es x ≡ Some v → P x)
-    → AllByRecursion (λ (q : ArrayVec ℕ). is_some (lookup (is_at (λ (k : ArrayVec ℕ). slice_cmp nat_cmp q.items k.items)) es) ≡ true) keys → AllByRecursion (λ (p : ArrayVec ℕ). P p.items) keys
-keys_hold P es [] all found = tt
-keys_hold {E} P es (q ∷ keys) all found =
-    let there = some_is (entry_at es q.items) (ap is_some (sym (lookup_is es q.items)) ∙ found.0) in
-    (all q.items there.0 there.1, keys_hold P es keys all found.1)
-
--- a map's keys are found
-abbrev pub AreFound : {E : Type 0} → List (ArrayVec ℕ × E) → Type 0
-AreFound es = All (λ (q : ArrayVec ℕ). IsSome (lookup (is_at (λ (k : ArrayVec ℕ). slice_cmp nat_cmp q.items k.items)) es)) (keys_of es)
-
-pub keys_found : {E : Type 0} (es : List (ArrayVec ℕ × E)) (keys : List (ArrayVec ℕ)) → keys ≡ keys_of es → AreFound es
-    → AllByRecursion (λ (q : ArrayVec ℕ). is_some (lookup (is_at (λ (k : ArrayVec ℕ). slice_cmp nat_cmp q.items k.items)) es) ≡ true) keys
-keys_found es keys same found =
-    rw same (recursion_from_All (λ (q : ArrayVec ℕ). is_some (lookup (is_at (λ (k : ArrayVec ℕ). slice_cmp nat_cmp q.items k.items)) es) ≡ true) (keys_of es) found)
+pub keys_hold : {E : Type 0} (P : List ℕ → Type 0) (es : List (ArrayVec ℕ × E)) → ((x : List ℕ) (v : E) → entry_at es x ≡ Some v → P x) → AllByRecursion (λ (p : ArrayVec ℕ). P p.items) (keys_of es)
+keys_hold P [] all = tt
+keys_hold {E} P (e ∷ es) all = (
+  all e.0.items e.1 (ap (λ b. if b then Some e.1 else entry_at es e.0.items) ((bytes_eq-Decides e.0.items e.0.items).1 refl)),
+  keys_hold P es (λ x v is. pick x v (bytes_eq x e.0.items) refl is),
+)
+  where
+    pick : (x : List ℕ) (v : E) (b : Bool) → bytes_eq x e.0.items ≡ b → entry_at es x ≡ Some v → P x
+    pick x v true same is = all x e.1 (ap (λ b. if b then Some e.1 else entry_at es x) same)
+    pick x v false other is = all x v (ap (λ b. if b then Some e.1 else entry_at es x) other ∙ is)
 
 -- one more path's row, of the targets
 pub targets_one : (count k : ℕ) (ps new : List (ArrayVec ℕ)) (left rest all : List (ArrayVec ℕ)) (p : ArrayVec ℕ) → left ≡ p ∷ rest

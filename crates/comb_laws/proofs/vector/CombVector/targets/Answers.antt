@@ -1,8 +1,8 @@
-use Rattle.std.proofs.Common.{◌≡◌, ◌<◌, ◌∙◌, length, ap, arith, subst, List, ℕ}
+use Rattle.std.proofs.Common.{◌≡◌, ◌<◌, ◌∙◌, length, ap}
 use Rattle.std.specs.Map.{keys_of}
 use Rattle.arrayvec.specs.ArrayVec.{ArrayVec}
 use Rattle.comb_laws.specs.Entries.{items_of, targets_of}
-use Rattle.comb_laws.proofs.EntryLemmas.{keys_hold, keys_found, AreFound, targets_one, targets_none}
+use Rattle.comb_laws.proofs.EntryLemmas.{keys_hold, targets_one, targets_none}
 use Rattle.comb_laws.proofs.vector.CombVector.targets.Goals as goal
 
 pub loop-path-init : goal.loop-path-init
@@ -12,8 +12,7 @@ loop-path-init g c =
     record {
       steps = tt;
       ends = tt;
-      long = keys_hold (λ x. c.args.k < length x) c.args.self.now c.into_iter-path-iterator.result c.requires
-          (keys_found c.args.self.now c.into_iter-path-iterator.result keys (subst (λ (es : List (ArrayVec ℕ × g.row.R-Elem.Denot)). AreFound es) c.self.view_is c.keys-path-items.ensures.found));
+      long = rw keys (keys_hold (λ x. c.args.k < length x) c.args.self.now c.requires);
       left = targets_none c.args.count c.args.k c.new-paths.result.items c.into_iter-path-iterator.result (keys_of c.args.self.now) c.new-paths.ensures.items keys;
     }
 
