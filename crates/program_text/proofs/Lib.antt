@@ -1,0 +1,7 @@
+pub mod LabelLemmas
+pub mod WordLemmas
+pub mod BackLemmas
+pub mod FormLemmas
+pub mod StartLemmas
+pub mod AcceptLemmas
+pub mod Tried

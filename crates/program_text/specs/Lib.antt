@@ -1,0 +1,6 @@
+pub mod Program
+pub mod Canonical
+pub mod Form
+pub mod Reading
+pub mod Parts
+pub mod Laws

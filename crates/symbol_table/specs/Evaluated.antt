@@ -1,5 +1,5 @@
 -- The stated evaluation of H and S: the conjugate first, then the factors of the formula from the left.
-use Rattle.std.specs.Prelude.{ℕ, Option, Some, None}
+use Rattle.std.specs.Prelude.{ℕ, Option}
 use Rattle.ring_laws.specs.Ring.{Ring}
 use Rattle.ring_laws.specs.Stated.{◌>>=◌, product_at, conjugate_at}
 use Rattle.symbol_table.specs.Symbols.{Given, f_of, vertex_of}

@@ -1,6 +1,6 @@
 /// The labels of `F(a,b,c,d;e,f)`: admissible where e occurs in a times b, d in e times c, f in b times c,
 /// and d in a times f.
-#[derive(Clone, Copy, Debug, PartialEq, Eq)]
+#[derive(Clone, Copy, Debug, PartialEq, Eq, PartialOrd, Ord)]
 pub struct FIndex {
     pub a: u8,
     pub b: u8,
@@ -11,7 +11,7 @@ pub struct FIndex {
 }
 
 /// The labels of a vertex: admissible where c occurs in a times b.
-#[derive(Clone, Copy, Debug, PartialEq, Eq)]
+#[derive(Clone, Copy, Debug, PartialEq, Eq, PartialOrd, Ord)]
 pub struct VIndex {
     pub a: u8,
     pub b: u8,

@@ -8,8 +8,19 @@
 //! - *given*: which triples fuse, and which values were set (`specs/Symbols.antt`).
 //! - *symbols*: F, H, R, S and w at all labels: 1 where an admissible index wasn't set, 0 where an index
 //!   isn't admissible (`specs/Symbols.antt`).
+//! - *stated H and S*: their evaluation from the left, which stops where an item doesn't fit
+//!   (`specs/Evaluated.antt`).
+//! - *draft*: the ring, the rules and the set values, in the order of their indices (`specs/Draft.antt`).
+//! - *derived*: the values of H and S that were put, and whether they are those of a draft
+//!   (`specs/Derived.antt`).
+//! - *index*: the labels of a symbol, and their order (`specs/Index.antt`).
 #![tactic(auto)]
 
+mod derived;
+mod draft;
 mod index;
+mod values;
 
+pub use derived::Derived;
+pub use draft::{Draft, SetFault};
 pub use index::{FIndex, VIndex};

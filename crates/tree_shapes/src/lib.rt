@@ -8,7 +8,7 @@
 
 ghost use Rattle.std.specs.Prelude.{◌≡◌, IfOk};
 ghost use Rattle.tree_shapes.specs.Views.{labelled};
-ghost use Rattle.tree_shapes.specs.Labelled.{Joined, is_strand, is_left_comb as is_comb};
+ghost use Rattle.tree_shapes.specs.Labelled.{Joined, Strand, is_strand, is_left_comb as is_comb};
 
 mod tree;
 
@@ -16,6 +16,13 @@ pub use tree::{Fork, Tree};
 
 use sqlite_items::Boxed;
 use std::alloc::{AllocError, Global};
+
+/// The tree of one strand with this label.
+pub fn strand(label: u8) -> Tree
+    ensures { labelled result ≡ Strand label }
+{
+    Tree::Leaf(label)
+}
 
 /// The tree whose top node has this label and these two children.
 pub fn join(alloc: Global, left: Tree, right: Tree, label: u8) -> Result<Tree, AllocError>

@@ -1,0 +1,4 @@
+mod LineLemmas
+mod StageLemmas
+mod Puts
+mod Reached

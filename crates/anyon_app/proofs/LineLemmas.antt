@@ -1,0 +1,34 @@
+-- Words make lines.
+use Rattle.std.proofs.Common.{◌≡◌, ℕ, List, [], ◌∷◌, ◌++◌, append_assoc, codes, refl, ap, sym, ◌∙◌}
+use Rattle.std.proofs.lemmas.List.{append-nil}
+use Rattle.anyon_app.specs.Lines.{line_of, spaced, spaced_on, spelled}
+
+pub spaced-cons : (word : List ℕ) (words : List (List ℕ)) → spaced (word ∷ words) ≡ word ++ spaced_on words
+spaced-cons word [] = sym (append-nil word)
+spaced-cons word (next ∷ words) = ap (λ l. word ++ 32 ∷ l) (spaced-cons next words)
+
+pub spaced_on-append : (xs ys : List (List ℕ)) → spaced_on (xs ++ ys) ≡ spaced_on xs ++ spaced_on ys
+spaced_on-append [] ys = refl
+spaced_on-append (x ∷ xs) ys = ap (λ l. 32 ∷ (x ++ l)) (spaced_on-append xs ys) ∙ ap (λ l. 32 ∷ l) (sym (append_assoc x (spaced_on xs) (spaced_on ys)))
+
+-- a first word, the words after it and an end are a line
+pub line_is : (first : List ℕ) (others : List (List ℕ)) → (first ++ spaced_on others) ++ 10 ∷ [] ≡ line_of (first ∷ others)
+line_is first others = ap (λ l. l ++ 10 ∷ []) (sym (spaced-cons first others))
+
+-- a line before others
+pub spelled-line : (out : List ℕ) (words : List (List ℕ)) (lines : List (List (List ℕ))) → (out ++ line_of words) ++ spelled lines ≡ out ++ spelled (words ∷ lines)
+spelled-line out words lines = append_assoc out (line_of words) (spelled lines) ∙ ap (λ l. out ++ l) (append_assoc (spaced words) (10 ∷ []) (spelled lines))
+
+-- a first word, labels, a word and a number make a line
+numbered_line : (out first : List ℕ) (labels : List (List ℕ)) (word number : List ℕ)
+    → ((((out ++ first) ++ spaced_on labels) ++ (32 ∷ (word ++ 32 ∷ []))) ++ number) ++ 10 ∷ [] ≡ out ++ line_of (first ∷ labels ++ (word ∷ number ∷ []))
+numbered_line out first labels word number =
+    let parts : ((((out ++ first) ++ spaced_on labels) ++ (32 ∷ (word ++ 32 ∷ []))) ++ number) ++ 10 ∷ [] ≡ out ++ ((first ++ (spaced_on labels ++ (32 ∷ (word ++ 32 ∷ (number ++ []))))) ++ 10 ∷ []) = simp (append_assoc, append-nil) in
+    parts ∙ ap (λ l. out ++ ((first ++ l) ++ 10 ∷ [])) (sym (spaced_on-append labels (word ∷ number ∷ []))) ∙ ap (λ l. out ++ l) (line_is first (labels ++ (word ∷ number ∷ [])))
+
+-- the parts of a row are its line
+pub row_is : (out : List ℕ) (labels : List (List ℕ)) (number : List ℕ)
+    → ((((out ++ codes "outcome") ++ spaced_on labels) ++ codes " weight ") ++ number) ++ 10 ∷ [] ≡ out ++ line_of (codes "outcome" ∷ labels ++ (codes "weight" ∷ number ∷ []))
+row_is out labels number = numbered_line out (codes "outcome") labels (codes "weight") number
+
+pub ruleset report_rules = (spelled-line, append_assoc)

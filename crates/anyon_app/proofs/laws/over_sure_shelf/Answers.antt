@@ -1,0 +1,9 @@
+use Rattle.std.proofs.Common.{refl}
+use Rattle.anyon_app.proofs.Reached.{is_there, no_rise}
+use Rattle.anyon_app.proofs.laws.over_sure_shelf.Goals as goal
+
+pub returns : goal.returns
+returns g c fault =
+    let failed = c.anyon.ensures.unread fault in
+    let there = is_there _ _ failed.name c.requires (failed.reached _ refl) in
+    no_rise _ _ _ _ failed.name c.anyon.ensures.kept there failed.rose

@@ -1,0 +1,8 @@
+use Rattle.std.proofs.Common.{◌≡◌, ◌++◌, drop}
+use Rattle.anyon_app.specs.Lines.{spaced_on}
+use Rattle.anyon_app.specs.Refusals.{label_names}
+use Rattle.anyon_app.proofs.report.write_labels.Given as goal
+
+abbrev pub invariant-loop-label : goal.invariant-loop-label
+invariant-loop-label l =
+    l.out.items ++ spaced_on (label_names l.names (drop l.label-index l.labels)) ≡ l.fn.out.items ++ spaced_on (label_names l.names l.labels)

@@ -1,0 +1,70 @@
+-- The reply to the words of a command line, and what the top call says of it.
+use Rattle.std.specs.Prelude.{◌≡◌, ◌⊎◌, ◌<◌, ◌^◌, ◌-◌, ℕ, List, [], ◌∷◌, take, map, codes, String, Option, Some, None, unwrap_or, IsSomeAnd, if◌then◌else◌}
+use Rattle.std.specs.declared.alloc.Global.{Global}
+use Rattle.std.specs.Str.{bytes_eq}
+use Rattle.std.specs.String.{string_bytes}
+use Rattle.std.specs.Io.KnownBytes.{Appends}
+use Rattle.io_ports.specs.Ports.{Files, Rose, WhereTold}
+use Rattle.anyon_app.specs.declared.status.Status.{Status}
+use Rattle.anyon_app.specs.declared.status.Status.TheVariants.{Done, Refused, Usage, WriteFault, Limit}
+use Rattle.anyon_app.specs.declared.top.Command.{Command}
+use Rattle.anyon_app.specs.declared.top.Command.TheVariants.{Comb}
+use Rattle.anyon_app.specs.Replies.{Reply}
+use Rattle.anyon_app.specs.Work.{Work, Says, reply_of, Reaches, Names}
+use Rattle.anyon_app.specs.Comb.{comb_work}
+
+-- what words of a listed form ask for: `comb CAT PROG`
+unfoldable pub command_in : List (List ℕ) → Option Work
+command_in (command ∷ first ∷ second ∷ []) = if bytes_eq command (codes "comb") then Some (comb_work first second) else None
+command_in words = None
+
+-- what a command asks for
+unfoldable pub command_work : Command → Work
+command_work (Comb category program) = comb_work category.now program.now
+
+-- the reply to words of no listed form
+abbrev pub usage : Reply
+usage = record { status = Usage; bytes = [] }
+
+-- what any words ask for
+abbrev pub work_of : List (String Global) → Work
+work_of words = unwrap_or (command_in (map string_bytes words)) (Says usage)
+
+-- a status that answers the words
+abbrev pub IsAnswer : Status → Type 0
+IsAnswer status = (status ≡ Done) ⊎ (status ≡ Refused) ⊎ (status ≡ Usage) ⊎ (status ≡ Limit)
+
+-- over these files the work has a reply, of which P holds
+abbrev pub HasReply : Work → Files → (Reply → Type 0) → Type 0
+HasReply work files P = IsSomeAnd (reply_of work files) P
+
+-- the reply has this status, and the sink took its bytes
+pub record IsGiven (status : Status) (before after : Option (List ℕ)) (reply : Reply) : Type 0 where
+  pub status_is : reply.status ≡ status
+  pub bytes : Appends before after reply.bytes
+
+-- the sink took the first of the reply's bytes
+abbrev pub IsBegun : Option (List ℕ) → Option (List ℕ) → Reply → Type 0
+IsBegun before after reply = (n : ℕ) × Appends before after (take n reply.bytes)
+
+-- a read of a text that the work comes to has failed
+pub record HasFailed (told : Option Files) (before after : List ℕ → ℕ) (work : Work) : Type 0 where
+  pub name : List ℕ
+  pub names : Names work name
+  pub rose : Rose (before name) (after name)
+  pub reached : WhereTold told (λ known. Reaches work known name)
+
+-- a count didn't rise, and doesn't stand at its last value
+abbrev pub IsQuiet : ℕ → ℕ → Type 0
+IsQuiet before after = (before < 2 ^ 64 - 1) × (after ≡ before)
+
+-- neither the sink nor a text that the work comes to has failed
+pub record NoFaults (work : Work) (known : Files) (before after : List ℕ → ℕ) (sink_before sink_after : ℕ) : Type 0 where
+  pub shelf : (name : List ℕ) → Reaches work known name → IsQuiet (before name) (after name)
+  pub sink : IsQuiet sink_before sink_after
+
+-- all bytes were taken, or the sink failed after the first of them
+abbrev pub IsPut : Option (List ℕ) → Option (List ℕ) → ℕ → ℕ → Status → List ℕ → Status → Type 0
+IsPut before after faults_before faults_after status bytes result =
+    ((result ≡ status) × Appends before after bytes)
+    ⊎ ((result ≡ WriteFault) × Rose faults_before faults_after × ((n : ℕ) × Appends before after (take n bytes)))

@@ -1,0 +1,10 @@
+pub mod Replies
+pub mod Lines
+pub mod Work
+pub mod Stages
+pub mod Causes
+pub mod Refusals
+pub mod StandIn
+pub mod Report
+pub mod Comb
+pub mod Headline

@@ -1,0 +1,54 @@
+-- The lines of refusals and limits. Labels are written by name, other numbers in decimal digits.
+use Rattle.std.specs.Prelude.{ℕ, List, [], ◌∷◌, map, codes, decimal, slice_index_or}
+use Rattle.fusion_rules.specs.declared.rules.RulesFault.{RulesFault}
+use Rattle.fusion_rules.specs.declared.rules.RulesFault.TheVariants.{NotCommutative, NotAssociative, NoSingleDual}
+use Rattle.symbol_table.specs.declared.index.FIndex.{FIndex}
+use Rattle.symbol_table.specs.declared.index.VIndex.{VIndex}
+use Rattle.anyon_app.specs.declared.texts.Kind.{Kind}
+use Rattle.anyon_app.specs.declared.texts.Kind.TheVariants.{Category, Program}
+use Rattle.anyon_app.specs.declared.stand_in.CategoryCause.{CategoryCause}
+use Rattle.anyon_app.specs.Replies.{Reply}
+use Rattle.anyon_app.specs.Lines.{refusal_of, limit_of}
+use Rattle.anyon_app.specs.Causes.{category_cause}
+
+-- the name of a label; a number that is no label has none
+abbrev pub label_name : List (List ℕ) → ℕ → List ℕ
+label_name names label = slice_index_or names label []
+
+abbrev pub label_names : List (List ℕ) → List ℕ → List (List ℕ)
+label_names names labels = map (label_name names) labels
+
+-- a line of a category text that its grammar refuses
+abbrev pub category_line : ℕ → CategoryCause → Reply
+category_line line cause = refusal_of (codes "category" ∷ codes "line" ∷ decimal line ∷ category_cause cause ∷ [])
+
+-- a category that isn't treated
+abbrev pub category_not_built : Reply
+category_not_built = refusal_of (codes "not built" ∷ codes "category" ∷ [])
+
+-- fusion rules that aren't those of a fusion category
+abbrev pub rules_line : List (List ℕ) → RulesFault → Reply
+rules_line names (NotCommutative a b c) = refusal_of (codes "commutative" ∷ label_names names (a ∷ b ∷ c ∷ []))
+rules_line names (NotAssociative a b c d) = refusal_of (codes "associative" ∷ label_names names (a ∷ b ∷ c ∷ d ∷ []))
+rules_line names (NoSingleDual a) = refusal_of (codes "dual" ∷ label_names names (a ∷ []))
+
+-- an item of H(a,b,c,d;f,e) that doesn't fit
+abbrev pub h_overflow : List (List ℕ) → FIndex → Reply
+h_overflow names at = limit_of (codes "overflow" ∷ codes "derive-h" ∷ label_names names (at.a ∷ at.b ∷ at.c ∷ at.d ∷ at.f ∷ at.e ∷ []))
+
+-- an item of S(a,b,c) that doesn't fit
+abbrev pub s_overflow : List (List ℕ) → VIndex → Reply
+s_overflow names at = limit_of (codes "overflow" ∷ codes "derive-s" ∷ label_names names (at.a ∷ at.b ∷ at.c ∷ []))
+
+-- a program that isn't treated
+abbrev pub program_not_built : Reply
+program_not_built = refusal_of (codes "not built" ∷ codes "program" ∷ [])
+
+-- a text with more bytes than the limit; such a program isn't treated
+abbrev pub too_long : Kind → Reply
+too_long Category = refusal_of (codes "category" ∷ codes "too long" ∷ [])
+too_long Program = program_not_built
+
+-- an item of a turn that doesn't fit
+abbrev pub turn_overflow : ℕ → Reply
+turn_overflow turn = limit_of (codes "overflow" ∷ codes "turn" ∷ decimal turn ∷ [])

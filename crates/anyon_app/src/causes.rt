@@ -1,0 +1,49 @@
+// The causes of refused lines, as they are written.
+ghost use Rattle.std.specs.Prelude.{◌≡◌};
+ghost use Rattle.anyon_app.specs.Causes.{category_cause, line_cause, number_cause};
+
+use crate::stand_in::{CategoryCause, LineCause, NumberWord};
+
+/// The words of a cause that any text can have.
+pub fn line_words(cause: LineCause) -> &'static str
+    ensures { result.now ≡ line_cause cause }
+{
+    match cause {
+        LineCause::TooLong => "line too long",
+        LineCause::NotAscii => "not ascii",
+    }
+}
+
+/// The words of a cause of a number word.
+pub fn number_words(cause: NumberWord) -> &'static str
+    ensures { result.now ≡ number_cause cause }
+{
+    match cause {
+        NumberWord::Spelling => "number spelling",
+        NumberWord::TooManyParts => "number parts",
+        NumberWord::TooBig => "number too big",
+        NumberWord::ZeroDenominator => "number zero denominator",
+    }
+}
+
+/// The words of a cause of a category text.
+pub fn category_words(cause: CategoryCause) -> &'static str
+    ensures { result.now ≡ category_cause cause }
+{
+    match cause {
+        CategoryCause::Line(cause) => line_words(cause),
+        CategoryCause::Header => "header",
+        CategoryCause::Root => "root",
+        CategoryCause::Labels => "labels",
+        CategoryCause::Limit => "limit",
+        CategoryCause::Repeated => "repeated",
+        CategoryCause::Misplaced => "misplaced",
+        CategoryCause::Word => "word",
+        CategoryCause::Short => "short",
+        CategoryCause::Long => "long",
+        CategoryCause::UnknownLabel => "unknown label",
+        CategoryCause::UnitFuse => "unit fuse",
+        CategoryCause::NotAdmissible => "not admissible",
+        CategoryCause::Number(cause) => number_words(cause),
+    }
+}

@@ -1,0 +1,31 @@
+//! The top call: words of the command line, a shelf of texts and a sink.
+//!
+//! - *reply*: a status, and the bytes that are written (`specs/Replies.antt`).
+//! - *line*: words with one space between two, ended by the byte 0x0A (`specs/Lines.antt`).
+//! - *work*: what a command does. It wants one text after another, and in the end it says its reply.
+//!   So it gives the reply over a map of texts, the order of refusals, and which texts are reached
+//!   (`specs/Work.antt`).
+//! - *stage*: a step of a command. It stops the command, or hands on a value (`specs/Stages.antt`).
+//! - *headline*: what the top call says of its status, of the shelf and of the sink
+//!   (`specs/Headline.antt`, [`anyon`]).
+#![tactic(auto)]
+
+mod causes;
+mod comb;
+mod laws;
+mod lines;
+mod refusals;
+mod report;
+mod stand_in;
+mod status;
+mod stop;
+mod texts;
+mod top;
+
+pub use laws::over_sure_shelf;
+pub use status::Status;
+use stop::Stop;
+pub use top::anyon;
+
+#[cfg(test)]
+mod tests;

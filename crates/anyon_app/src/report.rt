@@ -1,0 +1,49 @@
+// The report of the rows of a program.
+ghost use Rattle.std.specs.Prelude.{◌≡◌, ◌++◌, IfOk, OnOk};
+ghost use Rattle.anyon_app.specs.Lines.{line_of, spaced_on};
+ghost use Rattle.anyon_app.specs.Refusals.{label_names};
+ghost use Rattle.anyon_app.specs.Report.{report_of, row_words};
+ghost use Rattle.anyon_app.specs.StandIn.{outcomes, row_of};
+
+use crate::refusals::label_name;
+use crate::stand_in::{Row, Rows, write_number};
+use fusion_rules::Names;
+use std::alloc::{AllocError, Global};
+
+/// The total, and then a line for each row.
+#[tactic(auto, using(crate::proofs::LineLemmas::report_rules))]
+pub fn report(alloc: Global, names: &Names, rows: &Rows) -> Result<Vec<u8>, AllocError>
+    ensures { IfOk result (λ report. report.items ≡ report_of names.now (outcomes rows.now)) }
+{
+    let mut out = Vec::from_slice(alloc, b"total ")?;
+    write_number(&rows.total, &mut out)?;
+    out.push(b'\n')?;
+    for row in &rows.list {
+        write_row(names, row, &mut out)?;
+    }
+    Ok(out)
+}
+
+// Appends the line of a row.
+#[tactic(auto, using(crate::proofs::LineLemmas::row_is))]
+fn write_row(names: &Names, row: &Row, out: &mut Vec<u8>) -> Result<(), AllocError>
+    ensures { OnOk result (out.new.items ≡ out.old.items ++ line_of (row_words names.now (row_of row.now))) }
+{
+    out.extend_from_slice(b"outcome")?;
+    write_labels(names, &row.word, out)?;
+    out.extend_from_slice(b" weight ")?;
+    write_number(&row.weight, out)?;
+    out.push(b'\n')?;
+    Ok(())
+}
+
+// Appends the names of labels, with a space before each.
+fn write_labels(names: &Names, labels: &[u8], out: &mut Vec<u8>) -> Result<(), AllocError>
+    ensures { OnOk result (out.new.items ≡ out.old.items ++ spaced_on (label_names names.now labels.now)) }
+{
+    for label in labels {
+        out.push(b' ')?;
+        out.extend_from_slice(label_name(names, *label).as_bytes())?;
+    }
+    Ok(())
+}

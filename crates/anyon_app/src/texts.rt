@@ -1,0 +1,39 @@
+// The texts of a command.
+ghost use Rattle.std.specs.Prelude.{◌≡◌, ◌≤◌, IfOk, vec_len};
+ghost use Rattle.anyon_app.specs.Work.{text_limit, text_work};
+ghost use Rattle.anyon_app.specs.Stages.{Loads, Passes};
+ghost use Rattle.anyon_app.specs.Refusals.{too_long};
+
+use crate::refusals::too_long;
+use crate::stop::Stop;
+use io_ports::{LoadFault, Shelf, load};
+use std::alloc::Global;
+
+/// What a text is read as.
+#[derive(Clone, Copy, Debug, PartialEq, Eq)]
+pub enum Kind {
+    Category,
+    Program,
+}
+
+// The most bytes of a text.
+const TEXT_LIMIT: usize = 4_194_304;
+
+/// The text of this name, unless it has more than 4,194,304 bytes.
+pub fn text<S: Shelf>(alloc: Global, shelf: &mut S, kind: Kind, name: &str) -> Result<Vec<u8>, Stop>
+    ensures passes { Passes S.files S.faults shelf.old shelf.new (λ text. text.items) (text_work (too_long kind) name.now) result }
+    ensures short { IfOk result (λ text. vec_len text ≤ text_limit) }
+{
+    loaded(alloc, shelf, kind, name)
+}
+
+fn loaded<S: Shelf>(alloc: Global, shelf: &mut S, kind: Kind, name: &str) -> Result<Vec<u8>, Stop>
+    ensures { Loads S.files S.faults shelf.old shelf.new (too_long kind) name.now result }
+{
+    match load(alloc, shelf, name, TEXT_LIMIT) {
+        Ok(text) => Ok(text),
+        Err(LoadFault::TooLong) => Err(too_long(alloc, kind)),
+        Err(LoadFault::Failed) => Err(Stop::Unread),
+        Err(LoadFault::Memory) => Err(Stop::OutOfMemory),
+    }
+}

@@ -1,0 +1,108 @@
+// The top call.
+ghost use Rattle.std.specs.Prelude.{◌≡◌, ◌≢◌, ◌⊎◌, ◌≤◌, ◌↔◌, ℕ, List, map, Some, None, MatchOption, string_bytes};
+ghost use Rattle.io_ports.specs.Ports.{Files, Rose};
+ghost use Rattle.anyon_app.specs.Replies.{Reply};
+ghost use Rattle.anyon_app.specs.Work.{reply_of, Decides};
+ghost use Rattle.anyon_app.specs.Stages.{Worked};
+ghost use Rattle.anyon_app.specs.Headline.{command_in, command_work, work_of, IsAnswer, HasReply, IsGiven, IsBegun, HasFailed, NoFaults, IsPut};
+
+use crate::comb::comb;
+use crate::{Status, Stop};
+use io_ports::{Shelf, Sink, put_all};
+use std::alloc::Global;
+
+/// Does what the words of the command line say, the words after the program's name.
+///
+/// `comb CAT PROG` reads the category text and the program text of these names, each of at most
+/// 4,194,304 bytes, and writes the total and the rows of the program on left-combed paths. All other
+/// words are `Usage`. Whatever is written is built whole before its first byte is written.
+///
+/// - `Done`, `Refused`, `Limit`: the whole reply was written.
+/// - `Usage`: exactly where the words have no listed form. Nothing is written.
+/// - `ReadFault`: only where the shelf's count for the name of a text that was reached rose in this
+///   call, or stands at its last value. Nothing is written.
+/// - `WriteFault`: only where the sink's count rose in this call, or stands at its last value. A
+///   prefix of the reply was written.
+/// - `NoMemory`: nothing is written.
+pub fn anyon<S: Shelf, W: Sink>(
+    alloc: Global,
+    words: &[String],
+    shelf: &mut S,
+    sink: &mut W,
+) -> Status
+    ensures usage { (result ≡ Status.Usage) ↔ (command_in (map string_bytes words.now) ≡ None) }
+
+    // The status and the bytes are the reply's.
+    ensures answered { IsAnswer result → (known : Files) → Decides (S.files shelf.old) (work_of words.now) known
+        → HasReply (work_of words.now) known (IsGiven result (W.taken sink.old) (W.taken sink.new)) }
+
+    ensures unread { result ≡ Status.ReadFault
+        → HasFailed (S.files shelf.old) (S.faults shelf.old) (S.faults shelf.new) (work_of words.now) }
+    ensures unread_kept { result ≡ Status.ReadFault → W.taken sink.new ≡ W.taken sink.old }
+
+    ensures unwritten { result ≡ Status.WriteFault → Rose (W.faults sink.old) (W.faults sink.new) }
+    ensures unwritten_reply { result ≡ Status.WriteFault → (known : Files) → Decides (S.files shelf.old) (work_of words.now) known
+        → HasReply (work_of words.now) known (IsBegun (W.taken sink.old) (W.taken sink.new)) }
+    ensures unwritten_form { result ≡ Status.WriteFault → command_in (map string_bytes words.now) ≢ None }
+
+    // No call changes the texts of the shelf.
+    ensures kept { S.files shelf.new ≡ S.files shelf.old }
+
+    ensures no_memory { result ≡ Status.NoMemory → W.taken sink.new ≡ W.taken sink.old }
+
+    // Where nothing fails the reply is given.
+    ensures complete { (known : Files) → S.files shelf.old ≡ Some known
+        → NoFaults (work_of words.now) known (S.faults shelf.old) (S.faults shelf.new) (W.faults sink.old) (W.faults sink.new)
+        → (reply : Reply) → reply_of (work_of words.now) known ≡ Some reply
+        → IsGiven result (W.taken sink.old) (W.taken sink.new) reply ⊎ (result ≡ Status.NoMemory) }
+{
+    let Some(command) = command_of(words) else {
+        return Status::Usage;
+    };
+    match work(alloc, command, shelf) {
+        Ok(report) => put(sink, Status::Done, &report),
+        Err(Stop::RefusalLine(line)) => put(sink, Status::Refused, &line),
+        Err(Stop::LimitLine(line)) => put(sink, Status::Limit, &line),
+        Err(Stop::Unread) => Status::ReadFault,
+        Err(Stop::OutOfMemory) => Status::NoMemory,
+    }
+}
+
+// What the words ask for.
+#[derive(Clone, Copy)]
+enum Command<'a> {
+    Comb(&'a str, &'a str),
+}
+
+#[tactic(auto, unfolding(crate::specs::Headline::command_in, crate::specs::Headline::command_work))]
+fn command_of(words: &[String]) -> Option<Command<'_>>
+    ensures { MatchOption result (command_in (map string_bytes words.now) ≡ None)
+        (λ command. command_in (map string_bytes words.now) ≡ Some (command_work command)) }
+{
+    match words {
+        [command, category, program] if command.as_str() == "comb" => {
+            Some(Command::Comb(category.as_str(), program.as_str()))
+        }
+        _ => None,
+    }
+}
+
+#[tactic(auto, unfolding(crate::specs::Headline::command_work))]
+fn work<S: Shelf>(alloc: Global, command: Command<'_>, shelf: &mut S) -> Result<Vec<u8>, Stop>
+    ensures { Worked S.files S.faults shelf.old shelf.new (command_work command.entry) result }
+{
+    match command {
+        Command::Comb(category, program) => comb(alloc, shelf, category, program),
+    }
+}
+
+// Writes all of it and answers the status, unless the sink fails.
+fn put<W: Sink>(sink: &mut W, status: Status, bytes: &[u8]) -> Status
+    requires { IsAnswer status }
+    ensures { IsPut (W.taken sink.old) (W.taken sink.new) (W.faults sink.old) (W.faults sink.new) status bytes.now result }
+{
+    match put_all(sink, bytes) {
+        Ok(()) => status,
+        Err(_) => Status::WriteFault,
+    }
+}

@@ -1,0 +1,6 @@
+pub mod CountLemmas
+pub mod FaultLemmas
+pub mod NameLemmas
+pub mod PassLemmas
+pub mod UnitLemmas
+pub mod Worked

@@ -1,0 +1,12 @@
+use Rattle.std.proofs.Common.{◌≡◌, ◌-◌, ℕ}
+use Rattle.fusion_rules.specs.First.{first_from, first_below}
+use Rattle.fusion_rules.specs.Fusion.{fuses}
+use Rattle.fusion_rules.specs.Check.{ways_fault}
+use Rattle.fusion_rules.proofs.check.associate_with.Given as goal
+
+-- the first fault is among what is left
+abbrev pub invariant-loop-b : goal.invariant-loop-b
+invariant-loop-b l =
+    let n = l.rules.count in
+    let fault = λ (b : ℕ). first_below n (λ c. first_below n (ways_fault n (fuses l.rules) l.a b c)) in
+    first_from fault l.b (n - l.b) ≡ first_below n fault

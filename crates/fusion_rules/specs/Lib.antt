@@ -1,0 +1,5 @@
+pub mod Check
+pub mod First
+pub mod Fusion
+pub mod Held
+pub mod Names

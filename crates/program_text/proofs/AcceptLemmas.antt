@@ -1,0 +1,182 @@
+-- What a text is read to, judged by its form and its spelling.
+use Rattle.std.proofs.Common.{◌≡◌, ◌≢◌, ℕ, zero, suc, ◌+◌, ◌<◌, ◌≤◌, List, [], ◌∷◌, ◌++◌, Bool, true, false, ◌&&◌, ltb, length, map, take, drop, position, refl, sym, ap, subst, ◌∙◌, arith, append_assoc, codes, if◌then◌else◌, Option, Some, None}
+use Rattle.std.specs.Prelude.{nat_le}
+use Rattle.std.specs.Str.{bytes_eq}
+use Rattle.std.proofs.lemmas.Bool.Decides.{nat_tests}
+use Rattle.std.proofs.lemmas.Slice.Eq.{bytes_eq-Decides}
+use Rattle.std.proofs.lemmas.List.{length-drop}
+use Rattle.line_text.specs.Text.{Found, reading_of, word_in}
+use Rattle.line_text.specs.Spelling.{spaced, spelled}
+use Rattle.fusion_rules.specs.Names.{label_of}
+use Rattle.tree_shapes.specs.Labelled.{Labelled, Strand, Joined, size, is_left_comb, is_admissible}
+use Rattle.program_text.specs.declared.plan.Command.{Command}
+use Rattle.program_text.specs.Program.{Program}
+use Rattle.program_text.specs.Canonical.{name_of, opened, closed, tree_words, command_words, canonical_program}
+use Rattle.program_text.specs.Form.{labels_below, are_comb_commands, is_comb_start, is_comb_program}
+use Rattle.program_text.specs.Reading.{◌>>=◌, has_strands, without_opens, is_close, joint_of, joined_by, comb_of, start_of, first_line, commands_from, main_program, candidate, comb_program_of}
+use Rattle.program_text.specs.Parts.{tree_text, main_text}
+use Rattle.program_text.proofs.LabelLemmas.{label_small}
+use Rattle.program_text.proofs.FormLemmas.{IsStart, is_start, main_form, main_lines, main_spelled}
+use Rattle.program_text.proofs.StartLemmas.{strands_are}
+
+-- a tree that was read from words
+pub record IsReadComb (count : ℕ) (t : Labelled) (strands : ℕ) : Type 0 where
+  pub comb : is_left_comb t ≡ true
+  pub below : labels_below count t ≡ true
+  pub counted : size t ≡ strands
+
+small_test : (a count : ℕ) → a < count → ltb a count ≡ true
+small_test a count small = grind (arith, nat_tests)
+
+joint_small : (names : List (List ℕ)) (text : List ℕ) (j : ℕ × ℕ) → joint_of names text ≡ Some j → (ltb j.0 (length names) ≡ true) × (ltb j.1 (length names) ≡ true)
+joint_small names text j e = by_end (position is_close text) e
+  where
+    by_labels : (end : ℕ) (o r : Option ℕ) → label_of names (take end text) ≡ o → label_of names (drop 2 (drop end text)) ≡ r → (o >>= λ (a : ℕ). r >>= λ (q : ℕ). Some (a, q)) ≡ Some j
+        → (ltb j.0 (length names) ≡ true) × (ltb j.1 (length names) ≡ true)
+    by_labels end None r f g e = absurd (cc)
+    by_labels end (Some a) None f g e = absurd (cc)
+    by_labels end (Some a) (Some q) f g e =
+        let same : (a, q) ≡ j = cc in (
+          ap (λ (k : ℕ × ℕ). ltb k.0 (length names)) (sym same) ∙ small_test a (length names) (label_small names (take end text) a f),
+          ap (λ (k : ℕ × ℕ). ltb k.1 (length names)) (sym same) ∙ small_test q (length names) (label_small names (drop 2 (drop end text)) q g),
+        )
+
+    by_end : (o : Option ℕ) → (o >>= λ (end : ℕ). label_of names (take end text) >>= λ (a : ℕ). label_of names (drop 2 (drop end text)) >>= λ (q : ℕ). Some (a, q)) ≡ Some j
+        → (ltb j.0 (length names) ≡ true) × (ltb j.1 (length names) ≡ true)
+    by_end None e = absurd (cc)
+    by_end (Some end) e = by_labels end (label_of names (take end text)) (label_of names (drop 2 (drop end text))) refl refl e
+
+joined_is : (names : List (List ℕ)) (tree : Labelled) (words : List (List ℕ)) (t : Labelled) (n : ℕ) → IsReadComb (length names) tree n → joined_by names tree words ≡ Some t → IsReadComb (length names) t (n + length words)
+joined_is names tree [] t n is e =
+    let same : tree ≡ t = cc in
+    record { comb = ap is_left_comb (sym same) ∙ is.comb; below = ap (labels_below (length names)) (sym same) ∙ is.below; counted = omega (arith, ap size same, is.counted) }
+joined_is names tree (w ∷ ws) t n is e = by_joint (joint_of names w) refl (λ next. joined_is names next ws t (n + 1)) e
+  where
+    by_joint : (o : Option (ℕ × ℕ)) → joint_of names w ≡ o
+        → ((next : Labelled) → IsReadComb (length names) next (n + 1) → joined_by names next ws ≡ Some t → IsReadComb (length names) t (n + 1 + length ws))
+        → (o >>= λ (j : ℕ × ℕ). joined_by names (Joined tree (Strand j.0) j.1) ws) ≡ Some t → IsReadComb (length names) t (n + suc (length ws))
+    by_joint None f more e = absurd (cc)
+    by_joint (Some j) f more e =
+        let small = joint_small names w j f in
+        let rest = more (Joined tree (Strand j.0) j.1) (record { comb = is.comb; below = rw (small.1, is.below, small.0) refl; counted = omega (arith, is.counted) }) e in
+        record { comb = rest.comb; below = rest.below; counted = omega (arith, rest.counted) }
+
+pub record IsReadStart (count : ℕ) (t : Labelled) : Type 0 where
+  pub some : 2 ≤ size t
+  pub few : size t ≤ 16
+  pub comb : is_left_comb t ≡ true
+  pub below : labels_below count t ≡ true
+
+start_form : (names words : List (List ℕ)) (t : Labelled) → start_of names words ≡ Some t → IsReadStart (length names) t
+start_form names words t e = by_count (has_strands words) refl e
+  where
+    by_first : (o : Option ℕ) → label_of names (without_opens (word_in words 1)) ≡ o → has_strands words ≡ true → (o >>= λ (a : ℕ). joined_by names (Strand a) (drop 2 words)) ≡ Some t → IsReadStart (length names) t
+    by_first None f has e = absurd (cc)
+    by_first (Some a) f has e =
+        let one = joined_is names (Strand a) (drop 2 words) t 1 (record { comb = refl; below = small_test a (length names) (label_small names (without_opens (word_in words 1)) a f); counted = refl }) e in
+        let counted = strands_are words has in
+        let rest = length-drop 2 words in
+        record { some = omega (arith, one.counted, rest, counted.some); few = omega (arith, one.counted, rest, counted.few); comb = one.comb; below = one.below }
+
+    by_count : (b : Bool) → has_strands words ≡ b → (if b then comb_of names words else None) ≡ Some t → IsReadStart (length names) t
+    by_count false has e = absurd (cc)
+    by_count true has e = by_first (label_of names (without_opens (word_in words 1))) refl has e
+
+pub candidate_start : (names : List (List ℕ)) (found : List Found) (p : Program) → candidate names found ≡ Some p → IsReadStart (length names) p.start
+candidate_start names found p e = by_header (first_line found) e
+  where
+    by_commands : (t : Labelled) (o : Option (List Command)) → IsReadStart (length names) t → (o >>= λ (cs : List Command). Some (main_program t cs)) ≡ Some p → IsReadStart (length names) p.start
+    by_commands t None is e = absurd (cc)
+    by_commands t (Some cs) is e = let same : main_program t cs ≡ p = cc in subst (λ (q : Program). IsReadStart (length names) q.start) same is
+
+    by_start : (words : List (List ℕ)) (more : List Found) (o : Option Labelled) → start_of names words ≡ o → (o >>= λ (t : Labelled). commands_from [] more >>= λ (cs : List Command). Some (main_program t cs)) ≡ Some p → IsReadStart (length names) p.start
+    by_start words more None f e = absurd (cc)
+    by_start words more (Some t) f e = by_commands t (commands_from [] more) (start_form names words t f) e
+
+    by_line : (o : Option (List (List ℕ) × List Found)) → (o >>= λ (line : List (List ℕ) × List Found). start_of names line.0 >>= λ (t : Labelled). commands_from [] line.1 >>= λ (cs : List Command). Some (main_program t cs)) ≡ Some p → IsReadStart (length names) p.start
+    by_line None e = absurd (cc)
+    by_line (Some line) e = by_start line.0 line.1 (start_of names line.0) refl e
+
+    by_header : (o : Option (List (List ℕ) × List Found))
+        → (o >>= λ (header : List (List ℕ) × List Found). first_line header.1 >>= λ (line : List (List ℕ) × List Found). start_of names line.0 >>= λ (t : Labelled). commands_from [] line.1 >>= λ (cs : List Command). Some (main_program t cs)) ≡ Some p
+        → IsReadStart (length names) p.start
+    by_header None e = absurd (cc)
+    by_header (Some header) e = by_line (first_line header.1) e
+
+-- Words of a tree, spelled.
+
+spaced_append : (w : List ℕ) (ws ys : List (List ℕ)) → 0 < length ys → spaced ((w ∷ ws) ++ ys) ≡ spaced (w ∷ ws) ++ 32 ∷ spaced ys
+spaced_append w [] [] some = absurd (omega arith)
+spaced_append w [] (y ∷ ys) some = refl
+spaced_append w (v ∷ ws) ys some = ap (λ l. w ++ 32 ∷ l) (spaced_append v ws ys some) ∙ sym (append_assoc w (32 ∷ spaced (v ∷ ws)) (32 ∷ spaced ys))
+
+spaced_opened : (w : List ℕ) (ws : List (List ℕ)) → spaced (opened (w ∷ ws)) ≡ 40 ∷ spaced (w ∷ ws)
+spaced_opened w [] = refl
+spaced_opened w (v ∷ ws) = refl
+
+spaced_closed : (w : List ℕ) (ws : List (List ℕ)) (tail : List ℕ) → spaced (closed (w ∷ ws) tail) ≡ spaced (w ∷ ws) ++ tail
+spaced_closed w [] tail = refl
+spaced_closed w (v ∷ []) tail = sym (append_assoc w (32 ∷ v) tail)
+spaced_closed w (v ∷ u ∷ ws) tail = ap (λ l. w ++ 32 ∷ l) (spaced_closed v (u ∷ ws) tail) ∙ sym (append_assoc w (32 ∷ spaced (v ∷ u ∷ ws)) tail)
+
+some_closed : (w : List ℕ) (ws : List (List ℕ)) (tail : List ℕ) → 0 < length (closed (w ∷ ws) tail)
+some_closed w [] tail = omega arith
+some_closed w (v ∷ ws) tail = omega arith
+
+some_words : (names : List (List ℕ)) (t : Labelled) → 0 < length (tree_words names t)
+some_words names (Strand a) = omega arith
+some_words names (Joined l r q) = by_words (tree_words names l) (some_words names l)
+  where
+    by_words : (xs : List (List ℕ)) → 0 < length xs → 0 < length (opened xs ++ closed (tree_words names r) (41 ∷ 58 ∷ name_of names q))
+    by_words [] some = absurd (omega arith)
+    by_words (x ∷ xs) some = omega arith
+
+-- the words of a tree are its text
+words_text : (names : List (List ℕ)) (t : Labelled) → spaced (tree_words names t) ≡ tree_text names t
+words_text names (Strand a) = refl
+words_text names (Joined l r q) = by_words (tree_words names l) (tree_words names r) (some_words names l) (some_words names r) (words_text names l) (words_text names r)
+  where
+    by_words : (xs ys : List (List ℕ)) → 0 < length xs → 0 < length ys → spaced xs ≡ tree_text names l → spaced ys ≡ tree_text names r
+        → spaced (opened xs ++ closed ys (41 ∷ 58 ∷ name_of names q)) ≡ 40 ∷ (tree_text names l ++ 32 ∷ (tree_text names r ++ 41 ∷ 58 ∷ name_of names q))
+    by_words [] ys some_xs some_ys left right = absurd (omega arith)
+    by_words (x ∷ xs) [] some_xs some_ys left right = absurd (omega arith)
+    by_words (x ∷ xs) (y ∷ ys) some_xs some_ys left right =
+        let tail : List ℕ = 41 ∷ 58 ∷ name_of names q in
+        spaced_append (40 ∷ x) xs (closed (y ∷ ys) tail) (some_closed y ys tail)
+        ∙ ap (λ l. l ++ 32 ∷ spaced (closed (y ∷ ys) tail)) (spaced_opened x xs)
+        ∙ ap (λ l. 40 ∷ (l ++ 32 ∷ spaced (closed (y ∷ ys) tail))) left
+        ∙ ap (λ k. 40 ∷ (tree_text names l ++ 32 ∷ k)) (spaced_closed y ys tail ∙ ap (λ k. k ++ tail) right)
+
+start_text : (names : List (List ℕ)) (t : Labelled) → spaced (codes "start" ∷ tree_words names t) ≡ codes "start " ++ tree_text names t
+start_text names t = by_words (tree_words names t) (some_words names t) (words_text names t)
+  where
+    by_words : (ws : List (List ℕ)) → 0 < length ws → spaced ws ≡ tree_text names t → spaced (codes "start" ∷ ws) ≡ codes "start " ++ tree_text names t
+    by_words [] some e = absurd (omega arith)
+    by_words (w ∷ ws) some e = ap (λ l. codes "start" ++ 32 ∷ l) e
+
+pub text_is : (names : List (List ℕ)) (t : Labelled) (commands : List Command) → canonical_program names (main_program t commands) ≡ main_text names t commands
+text_is names t commands =
+    main_spelled names t commands ∙ ap (λ (line : List ℕ). codes "program 1\n" ++ (line ++ 10 ∷ spelled (map command_words commands))) (start_text names t)
+
+pub refused : (names : List (List ℕ)) (count : ℕ) (fuse : ℕ → ℕ → ℕ → Bool) (bytes : List ℕ) (p : Program) → candidate names (reading_of 0 bytes).ahead ≡ Some p → bytes_eq (canonical_program names p) bytes ≡ false
+    → comb_program_of names count fuse bytes ≡ None
+unfolding comb_program_of
+refused names count fuse bytes p e other = rw (e, other) (by_form (is_comb_program fuse count p))
+  where
+    by_form : (form : Bool) → (if form && false then Some p else None) ≡ None
+    by_form false = refl
+    by_form true = refl
+
+pub accepted : (names : List (List ℕ)) (count : ℕ) (fuse : ℕ → ℕ → ℕ → Bool) (bytes : List ℕ) (p : Program) → candidate names (reading_of 0 bytes).ahead ≡ Some p → is_comb_program fuse count p ≡ true
+    → bytes_eq (canonical_program names p) bytes ≡ true → comb_program_of names count fuse bytes ≡ Some p
+unfolding comb_program_of
+accepted names count fuse bytes p e form same = rw (e, form, same) refl
+
+-- a candidate that has the form of a comb program, and its text
+pub main_is : (names : List (List ℕ)) (count : ℕ) (fuse : ℕ → ℕ → ℕ → Bool) (t : Labelled) (commands : List Command) (strands : ℕ) → length names ≡ count → IsReadStart (length names) t → strands ≡ size t
+    → is_admissible fuse t ≡ true → are_comb_commands strands commands ≡ true → is_comb_program fuse count (main_program t commands) ≡ true
+main_is names count fuse t commands strands counts is counted admissible allowed =
+    let start : is_comb_start fuse count t ≡ true =
+        is_start fuse count t (record { some = is.some; few = is.few; comb = is.comb; below = ap (λ (n : ℕ). labels_below n t) (sym counts) ∙ is.below; admissible = admissible }) in
+    let commands_are : are_comb_commands (size t) commands ≡ true = ap (λ (n : ℕ). are_comb_commands n commands) (sym counted) ∙ allowed in
+    main_form fuse count t commands ∙ rw start commands_are

@@ -1,0 +1,33 @@
+-- The definitions, tried on small texts.
+use Rattle.std.proofs.Common.{◌≡◌, ℕ, List, [], ◌∷◌, Bool, true, refl, Option, Some, None, codes}
+use Rattle.std.specs.Fmt.{digits}
+use Rattle.tree_shapes.specs.Labelled.{Strand, Joined}
+use Rattle.program_text.specs.declared.plan.Sign.TheVariants.{Plus, Minus}
+use Rattle.program_text.specs.declared.plan.Command.TheVariants.{Braid, Measure}
+use Rattle.program_text.specs.Program.{Program}
+use Rattle.program_text.specs.Canonical.{canonical_program}
+use Rattle.program_text.specs.Reading.{comb_program_of, main_program}
+
+names : List (List ℕ)
+names = codes "1" ∷ codes "t" ∷ []
+
+-- every triple fuses
+all : ℕ → ℕ → ℕ → Bool
+all a b c = true
+
+three : Program
+three = main_program (Joined (Joined (Strand 1) (Strand 1) 0) (Strand 1) 1) (Braid 2 Minus ∷ Measure 1 ∷ [])
+
+read_well : comb_program_of names 2 all (codes "program 1\nstart ((t t):1 t):t\nbraid 2 -\nmeasure 1\n") ≡ Some three
+unfolding comb_program_of canonical_program digits names all three
+read_well = refl
+
+-- two spaces aren't canonical
+two_spaces : comb_program_of names 2 all (codes "program 1\nstart ((t t):1 t):t\nbraid  2 -\nmeasure 1\n") ≡ None
+unfolding comb_program_of canonical_program digits names all
+two_spaces = refl
+
+-- there are gaps 1 and 2
+gap_three : comb_program_of names 2 all (codes "program 1\nstart ((t t):1 t):t\nmeasure 3\n") ≡ None
+unfolding comb_program_of canonical_program digits names all
+gap_three = refl

@@ -1,0 +1,246 @@
+ghost use Rattle.std.specs.Prelude.{◌≡◌, ◌<◌, ◌≤◌, ℕ, [], IsTrue, OnOk, Option, Some, None, is_some, unwrap_or, if◌then◌else◌, List};
+ghost use Rattle.fusion_rules.specs.Fusion.{fuses};
+ghost use Rattle.symbol_table.specs.Index.{AreSixLabels, AreThreeLabels};
+ghost use Rattle.symbol_table.specs.Symbols.{f_admissible, f_of, vertex_of};
+ghost use Rattle.symbol_table.specs.Draft.{DraftValue, Sets, SetsF, SetsVertex, f_fault, f_index_admissible, given, vertex_fault, with_f, with_r, with_v, with_w};
+
+use crate::index::{FIndex, VIndex};
+use crate::values::{set_value, value_or_one};
+use fusion_rules::Rules;
+use ring_laws::StarRing;
+use std::alloc::Global;
+use std::collections::BTreeMap;
+use std::marker::Model;
+
+/// Why a value isn't set.
+#[derive(Clone, Copy, Debug, PartialEq, Eq)]
+pub enum SetFault {
+    /// The rules don't admit the index.
+    NotAdmissible,
+    /// The index was set before.
+    Repeated,
+    /// There was no memory for one value more.
+    Memory,
+}
+
+/// Rules, and values of F, R, w and v at some of their admissible indices, over a ring.
+///
+/// A symbol that wasn't set is 1. Every value that was set is a member of the ring. Nothing says that the
+/// symbols are those of a category.
+#[derive(Drop)]
+pub struct Draft<R: StarRing> {
+    ring: R,
+    rules: Rules,
+    f: BTreeMap<FIndex, R::Elem>,
+    r: BTreeMap<VIndex, R::Elem>,
+    w: BTreeMap<VIndex, R::Elem>,
+    v: BTreeMap<VIndex, R::Elem>,
+}
+
+impl<R: StarRing> Model for Draft<R> {
+    ghost use Rattle.symbol_table.specs.Draft.{DraftValue, IsOver};
+
+    ghost Value = { DraftValue R R.Elem };
+
+    ghost view = { λ d. record { ring = d.ring; rules = d.rules; set_f = d.f.entries; set_r = d.r.entries; set_w = d.w.entries; set_v = d.v.entries } };
+
+    ghost invariant = { λ d. IsOver (R.ring d.ring) (record { ring = d.ring; rules = d.rules; set_f = d.f.entries; set_r = d.r.entries; set_w = d.w.entries; set_v = d.v.entries }) };
+}
+
+/// Whether the four vertices of an index of F are triples of the rules.
+pub(crate) fn admits(rules: &Rules, at: &FIndex) -> bool
+    requires { AreSixLabels rules.now.count at.now.a at.now.b at.now.c at.now.d at.now.e at.now.f }
+    ensures { result ≡ f_admissible (fuses rules.now) at.now.a at.now.b at.now.c at.now.d at.now.e at.now.f }
+{
+    rules.allows(at.a, at.b, at.e)
+        && rules.allows(at.e, at.c, at.d)
+        && rules.allows(at.b, at.c, at.f)
+        && rules.allows(at.a, at.f, at.d)
+}
+
+impl<R: StarRing> Draft<R> {
+    /// A draft of this ring and these rules, with no symbol set.
+    pub fn new(alloc: Global, ring: R, rules: Rules) -> Draft<R>
+        ensures { result ≡ record { ring = ring; rules = rules; set_f = []; set_r = []; set_w = []; set_v = [] } }
+    {
+        Draft {
+            ring,
+            rules,
+            f: BTreeMap::new(alloc),
+            r: BTreeMap::new(alloc),
+            w: BTreeMap::new(alloc),
+            v: BTreeMap::new(alloc),
+        }
+    }
+
+    /// The ring of the values.
+    pub fn ring(&self) -> &R
+        ensures { result.now ≡ self.now.ring }
+    {
+        &self.ring
+    }
+
+    /// The fusion rules.
+    pub fn rules(&self) -> &Rules
+        ensures { result.now ≡ self.now.rules }
+    {
+        &self.rules
+    }
+
+    /// F at an admissible index: the value that was set, or 1.
+    pub fn f(&self, at: &FIndex) -> R::Elem
+        requires { IsTrue (f_index_admissible (given self.now) at.now) }
+        ensures value { result ≡ f_of (R.ring self.now.ring) (given self.now) at.now.a at.now.b at.now.c at.now.d at.now.e at.now.f }
+        ensures member { IsTrue ((R.ring self.now.ring).member result) }
+        ensures held { IsTrue (R.held.can_hold result) }
+    {
+        value_or_one(&self.ring, self.f.get(at))
+    }
+
+    /// R at an admissible index: the value that was set, or 1.
+    pub fn r(&self, at: &VIndex) -> R::Elem
+        requires { IsTrue (fuses self.now.rules at.now.a at.now.b at.now.c) }
+        ensures value { result ≡ vertex_of (R.ring self.now.ring) (given self.now) (given self.now).set_r at.now.a at.now.b at.now.c }
+        ensures member { IsTrue ((R.ring self.now.ring).member result) }
+        ensures held { IsTrue (R.held.can_hold result) }
+    {
+        value_or_one(&self.ring, self.r.get(at))
+    }
+
+    /// The weight w at an admissible index: the value that was set, or 1.
+    pub fn w(&self, at: &VIndex) -> R::Elem
+        requires { IsTrue (fuses self.now.rules at.now.a at.now.b at.now.c) }
+        ensures value { result ≡ vertex_of (R.ring self.now.ring) (given self.now) (given self.now).set_w at.now.a at.now.b at.now.c }
+        ensures member { IsTrue ((R.ring self.now.ring).member result) }
+        ensures held { IsTrue (R.held.can_hold result) }
+    {
+        value_or_one(&self.ring, self.w.get(at))
+    }
+
+    /// The inverse weight v at an admissible index: the value that was set, or 1.
+    pub fn v(&self, at: &VIndex) -> R::Elem
+        requires { IsTrue (fuses self.now.rules at.now.a at.now.b at.now.c) }
+        ensures value { result ≡ vertex_of (R.ring self.now.ring) (given self.now) (given self.now).set_v at.now.a at.now.b at.now.c }
+        ensures member { IsTrue ((R.ring self.now.ring).member result) }
+        ensures held { IsTrue (R.held.can_hold result) }
+    {
+        value_or_one(&self.ring, self.v.get(at))
+    }
+
+    /// Sets F at an index of labels below the count, to a member of the ring.
+    ///
+    /// Refuses `NotAdmissible` exactly where the index isn't admissible, else `Repeated` exactly where it was set
+    /// before. Refused, or for want of memory, the draft is unchanged.
+    pub fn set_f(&mut self, at: FIndex, value: R::Elem) -> Result<(), SetFault>
+        requires labels { AreSixLabels self.old.rules.count at.a at.b at.c at.d at.e at.f }
+        requires member { IsTrue ((R.ring self.old.ring).member value) }
+        ensures told { Sets result (f_fault (given self.old) at) self.old self.new (with_f self.old at value) }
+        ensures sets { OnOk result (SetsF at value (given self.old).set_f (given self.new).set_f) }
+    {
+        if !admits(&self.rules, &at) {
+            return Err(SetFault::NotAdmissible);
+        }
+        set_value(&mut self.f, at, value)
+    }
+
+    /// Sets R at an index of labels below the count, to a member of the ring.
+    ///
+    /// Refuses `NotAdmissible` exactly where the index isn't admissible, else `Repeated` exactly where it was set
+    /// before. Refused, or for want of memory, the draft is unchanged.
+    pub fn set_r(&mut self, at: VIndex, value: R::Elem) -> Result<(), SetFault>
+        requires labels { AreThreeLabels self.old.rules.count at.a at.b at.c }
+        requires member { IsTrue ((R.ring self.old.ring).member value) }
+        ensures told { Sets result (vertex_fault (given self.old) (given self.old).set_r at) self.old self.new (with_r self.old at value) }
+        ensures sets { OnOk result (SetsVertex at value (given self.old).set_r (given self.new).set_r) }
+    {
+        if !self.rules.allows(at.a, at.b, at.c) {
+            return Err(SetFault::NotAdmissible);
+        }
+        set_value(&mut self.r, at, value)
+    }
+
+    /// Sets the weight w at an index of labels below the count, to a member of the ring.
+    ///
+    /// Refuses `NotAdmissible` exactly where the index isn't admissible, else `Repeated` exactly where it was set
+    /// before. Refused, or for want of memory, the draft is unchanged.
+    pub fn set_w(&mut self, at: VIndex, value: R::Elem) -> Result<(), SetFault>
+        requires labels { AreThreeLabels self.old.rules.count at.a at.b at.c }
+        requires member { IsTrue ((R.ring self.old.ring).member value) }
+        ensures told { Sets result (vertex_fault (given self.old) (given self.old).set_w at) self.old self.new (with_w self.old at value) }
+        ensures sets { OnOk result (SetsVertex at value (given self.old).set_w (given self.new).set_w) }
+    {
+        if !self.rules.allows(at.a, at.b, at.c) {
+            return Err(SetFault::NotAdmissible);
+        }
+        set_value(&mut self.w, at, value)
+    }
+
+    /// Sets the inverse weight v at an index of labels below the count, to a member of the ring.
+    ///
+    /// Refuses `NotAdmissible` exactly where the index isn't admissible, else `Repeated` exactly where it was set
+    /// before. Refused, or for want of memory, the draft is unchanged.
+    pub fn set_v(&mut self, at: VIndex, value: R::Elem) -> Result<(), SetFault>
+        requires labels { AreThreeLabels self.old.rules.count at.a at.b at.c }
+        requires member { IsTrue ((R.ring self.old.ring).member value) }
+        ensures told { Sets result (vertex_fault (given self.old) (given self.old).set_v at) self.old self.new (with_v self.old at value) }
+        ensures sets { OnOk result (SetsVertex at value (given self.old).set_v (given self.new).set_v) }
+    {
+        if !self.rules.allows(at.a, at.b, at.c) {
+            return Err(SetFault::NotAdmissible);
+        }
+        set_value(&mut self.v, at, value)
+    }
+
+    /// F(a,b,c,d;e,f) at any six labels below the count: 0 where they aren't admissible.
+    pub fn f_at(&self, a: u8, b: u8, c: u8, d: u8, e: u8, f: u8) -> R::Elem
+        requires labels { AreSixLabels self.now.rules.count a b c d e f }
+        ensures value { result ≡ f_of (R.ring self.now.ring) (given self.now) a b c d e f }
+        ensures member { IsTrue ((R.ring self.now.ring).member result) }
+        ensures held { IsTrue (R.held.can_hold result) }
+    {
+        let at = FIndex { a, b, c, d, e, f };
+        if !admits(&self.rules, &at) {
+            return self.ring.zero();
+        }
+        self.f(&at)
+    }
+
+    /// R(a,b,c) at any three labels below the count: 0 where they aren't admissible.
+    pub fn r_at(&self, a: u8, b: u8, c: u8) -> R::Elem
+        requires labels { AreThreeLabels self.now.rules.count a b c }
+        ensures value { result ≡ vertex_of (R.ring self.now.ring) (given self.now) (given self.now).set_r a b c }
+        ensures member { IsTrue ((R.ring self.now.ring).member result) }
+        ensures held { IsTrue (R.held.can_hold result) }
+    {
+        if !self.rules.allows(a, b, c) {
+            return self.ring.zero();
+        }
+        self.r(&VIndex { a, b, c })
+    }
+
+    /// The weight w(a,b,c) at any three labels below the count: 0 where they aren't admissible.
+    pub fn w_at(&self, a: u8, b: u8, c: u8) -> R::Elem
+        requires labels { AreThreeLabels self.now.rules.count a b c }
+        ensures value { result ≡ vertex_of (R.ring self.now.ring) (given self.now) (given self.now).set_w a b c }
+        ensures member { IsTrue ((R.ring self.now.ring).member result) }
+        ensures held { IsTrue (R.held.can_hold result) }
+    {
+        if !self.rules.allows(a, b, c) {
+            return self.ring.zero();
+        }
+        self.w(&VIndex { a, b, c })
+    }
+
+    /// The inverse weight v(a,b,c) at any three labels below the count: 0 where they aren't admissible.
+    pub fn v_at(&self, a: u8, b: u8, c: u8) -> R::Elem
+        requires labels { AreThreeLabels self.now.rules.count a b c }
+        ensures value { result ≡ vertex_of (R.ring self.now.ring) (given self.now) (given self.now).set_v a b c }
+        ensures member { IsTrue ((R.ring self.now.ring).member result) }
+        ensures held { IsTrue (R.held.can_hold result) }
+    {
+        if !self.rules.allows(a, b, c) {
+            return self.ring.zero();
+        }
+        self.v(&VIndex { a, b, c })
+    }
+}
