@@ -8,9 +8,8 @@ use Rattle.std.specs.Ordering.{nat_cmp, is_eq}
 use Rattle.std.specs.Cmp.Lexicographic.{slice_cmp}
 use Rattle.std.proofs.lemmas.Map.Text.{is_eq-slice_cmp}
 use Rattle.arrayvec.specs.ArrayVec.{ArrayVec}
-use Rattle.std.specs.List.{All, AllByRecursion}
-use Rattle.std.proofs.lemmas.List.Elements.{recursion_from_All}
-use Rattle.ring_laws.proofs.StatedLemmas.{some_inj}
+use Rattle.std.specs.List.{AllByRecursion}
+use Rattle.std.proofs.lemmas.Slice.Eq.{bytes_eq-Decides}
 use Rattle.comb_laws.specs.Paths.{Path}
 use Rattle.comb_laws.specs.Entries.{entry_at, items_of, row_from, row_of, targets_of}
 
@@ -23,18 +22,6 @@ pub put_is : {E : Type 0} (new old : List (ArrayVec ℕ × E)) (p x : List ℕ) 
     → lookup (is_at (λ (k : ArrayVec ℕ). slice_cmp nat_cmp x k.items)) new ≡ cond (is_eq (slice_cmp nat_cmp p x)) (Some v) (lookup (is_at (λ (k : ArrayVec ℕ). slice_cmp nat_cmp x k.items)) old)
     → entry_at new x ≡ (if bytes_eq p x then Some v else entry_at old x)
 put_is new old p x v h = sym (lookup_is new x) ∙ (h ∙ (λ j. cond (is_eq-slice_cmp p x j) (Some v) (lookup_is old x j)))
-
--- what holds of every value holds of the one at a path
-entry_by : {E : Type 0} (P : E → Type 0) (es : List (ArrayVec ℕ × E)) (x : List ℕ) (v : E) → AllByRecursion (λ (e : ArrayVec ℕ × E). P e.1) es → Some v ≡ entry_at es x → P v
-entry_by P [] x v all e = absurd (cc)
-entry_by {E} P (e ∷ es) x v all is = pick (bytes_eq x e.0.items) is (entry_by P es x v all.1)
-  where
-    pick : (b : Bool) → Some v ≡ (if b then Some e.1 else entry_at es x) → (Some v ≡ entry_at es x → P v) → P v
-    pick true same later = subst P (sym (some_inj v e.1 same)) all.0
-    pick false same later = later same
-
-pub entry_holds : {E : Type 0} (P : E → Type 0) (es : List (ArrayVec ℕ × E)) (x : List ℕ) (v : E) → All (λ (e : ArrayVec ℕ × E). P e.1) es → Some v ≡ entry_at es x → P v
-entry_holds {E} P es x v all is = entry_by P es x v (recursion_from_All (λ (e : ArrayVec ℕ × E). P e.1) es all) is
 
 one_less : (t n : ℕ) → t < n → n - t ≡ suc (n - (t + 1))
 one_less t n h = omega arith
@@ -49,13 +36,17 @@ row_one ps p u n k x h e =
     ap (λ xs. xs ++ row_from (u + 1) (n - (u + 1)) k x) (items_of-append ps p)
     ∙ (append_assoc (items_of ps) (p.items ∷ []) (row_from (u + 1) (n - (u + 1)) k x) ∙ rw (one_less u n h, e) refl)
 
-keys_by : {E : Type 0} (P : ArrayVec ℕ → Type 0) (es : List (ArrayVec ℕ × E)) → AllByRecursion (λ (e : ArrayVec ℕ × E). P e.0) es → AllByRecursion P (keys_of es)
-keys_by P [] all = tt
-keys_by P (e ∷ es) all = (all.0, keys_by P es all.1)
-
--- what holds of each entry's path holds of each path
-pub keys_hold : {E : Type 0} (P : ArrayVec ℕ → Type 0) (es : List (ArrayVec ℕ × E)) (keys : List (ArrayVec ℕ)) → All (λ (e : ArrayVec ℕ × E). P e.0) es → keys ≡ keys_of es → AllByRecursion P keys
-keys_hold {E} P es keys all is = rw is (keys_by P es (recursion_from_All (λ (e : ArrayVec ℕ × E). P e.0) es all))
+-- what holds of each path that has a value holds of each key
+pub keys_hold : {E : Type 0} (P : List ℕ → Type 0) (es : List (ArrayVec ℕ × E)) → ((x : List ℕ) (v : E) → entry_at es x ≡ Some v → P x) → AllByRecursion (λ (p : ArrayVec ℕ). P p.items) (keys_of es)
+keys_hold P [] all = tt
+keys_hold {E} P (e ∷ es) all = (
+  all e.0.items e.1 (ap (λ b. if b then Some e.1 else entry_at es e.0.items) ((bytes_eq-Decides e.0.items e.0.items).1 refl)),
+  keys_hold P es (λ x v is. pick x v (bytes_eq x e.0.items) refl is),
+)
+  where
+    pick : (x : List ℕ) (v : E) (b : Bool) → bytes_eq x e.0.items ≡ b → entry_at es x ≡ Some v → P x
+    pick x v true same is = all x e.1 (ap (λ b. if b then Some e.1 else entry_at es x) same)
+    pick x v false other is = all x v (ap (λ b. if b then Some e.1 else entry_at es x) other ∙ is)
 
 -- one more path's row, of the targets
 pub targets_one : (count k : ℕ) (ps new : List (ArrayVec ℕ)) (left rest all : List (ArrayVec ℕ)) (p : ArrayVec ℕ) → left ≡ p ∷ rest

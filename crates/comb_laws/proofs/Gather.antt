@@ -6,7 +6,7 @@ use Rattle.std.specs.Str.{bytes_eq}
 use Rattle.std.specs.Bool.{Decides}
 use Rattle.std.specs.List.{list_any, flat_map, range_with_len, AllByRecursion, All}
 use Rattle.std.proofs.lemmas.List.{set-set, set-get_or, take_more, map-append, length-set}
-use Rattle.std.proofs.lemmas.List.Elements.{All-set, All-from_recursion, recursion_from_All}
+use Rattle.std.proofs.lemmas.List.Elements.{All-set, All-from_recursion}
 use Rattle.std.proofs.lemmas.List.Folds.{list_any-append}
 use Rattle.std.proofs.lemmas.Bool.Decides.{leb_tells, nat_tests}
 use Rattle.std.proofs.lemmas.Slice.Eq.{bytes_eq-Decides}
@@ -20,7 +20,7 @@ use Rattle.symbol_table.specs.Symbols.{Symbols}
 use Rattle.comb_laws.specs.Operators.{Kernel, term_at, acted}
 use Rattle.comb_laws.specs.Evaluated.{KernelAt, acted_step, acted_at}
 use Rattle.comb_laws.specs.Paths.{Path, Vector, goes_on, is_path}
-use Rattle.comb_laws.specs.Entries.{row_from, entry_at, vector_of, kept_of, among, row_of, targets_of, items_of, gathered, IsAlong, AreAlong, AreMembers}
+use Rattle.comb_laws.specs.Entries.{row_from, entry_at, vector_of, kept_of, among, row_of, targets_of, items_of, gathered, IsAlong, AreMembers, AreEntries}
 
 pub same_path : (a x : Path) → bytes_eq a x ≡ true → a ≡ x
 same_path a x = (bytes_eq-Decides a x).0
@@ -114,6 +114,26 @@ steps_same : {E : Type 0} (step : ℕ → E → Option E) → ((t : ℕ) (s : E)
 steps_same step same t zero s = refl
 steps_same step same t (suc n) s = rw (same t s) (steps_same step same (t + 1) n s)
 
+along_goes : {E : Type 0} (c : Symbols E) (p : ℕ) (ss xs : List ℕ) → goes_on c p ss xs ≡ true → (length xs ≡ length ss) × AllByRecursion (λ l. l < c.count) xs
+along_goes c p [] [] h = (refl, tt)
+along_goes c p [] (x ∷ xs) h = absurd (cc)
+along_goes c p (s ∷ ss) [] h = absurd (cc)
+along_goes c p (s ∷ ss) (x ∷ xs) h =
+    let parts = and_true (nat_lt x c.count) (c.fuse p s x && goes_on c x ss xs) h in
+    let rest = along_goes c x ss xs (and_true (c.fuse p s x) (goes_on c x ss xs) parts.1).1 in
+    (ap (λ n. suc n) rest.0, (nat_lt_true x c.count parts.0, rest.1))
+
+-- a path has a label below the count before the first strand and after each
+pub path_along : {E : Type 0} (c : Symbols E) (ss : List ℕ) (x : Path) → 0 < c.count → is_path c ss x ≡ true → IsAlong c.count (length ss) x
+path_along c ss [] some h = absurd (cc)
+path_along c ss (x ∷ xs) some h =
+    let parts = and_true (x == 0) (goes_on c 0 ss xs) h in
+    let rest = along_goes c 0 ss xs parts.1 in
+    let unit : x ≡ 0 = grind (arith, nat_tests) in
+    let low : x < c.count = omega arith in
+    let one : suc (length xs) ≡ length ss + 1 = omega (arith, rest.0) in
+    record { long = one; labels = All-from_recursion (λ l. l < c.count) (x ∷ xs) (low, rest.1) }
+
 along_row : (count n : ℕ) (y : Path) (k u m : ℕ) → u + m ≤ count → IsAlong count n y → AllByRecursion (IsAlong count n) (row_from u m k y)
 along_row count n y k u zero few along = tt
 along_row count n y k u (suc m) few along = (
@@ -128,20 +148,20 @@ along_append : {X : Type 0} (P : X → Type 0) (xs ys : List X) → AllByRecursi
 along_append P [] ys a b = b
 along_append P (x ∷ xs) ys a b = (a.0, along_append P xs ys a.1 b)
 
-targets_along : {E : Type 0} (count n k : ℕ) (es : List (ArrayVec ℕ × E)) → AllByRecursion (λ (e : ArrayVec ℕ × E). IsAlong count n e.0.items) es → AllByRecursion (IsAlong count n) (targets_of count k (keys_of es))
+targets_along : (count n k : ℕ) (keys : List (ArrayVec ℕ)) → AllByRecursion (λ (p : ArrayVec ℕ). IsAlong count n p.items) keys → AllByRecursion (IsAlong count n) (targets_of count k keys)
 targets_along count n k [] along = tt
-targets_along count n k (e ∷ es) along =
-    along_append (IsAlong count n) (row_of count k e.0.items) (targets_of count k (keys_of es)) (along_row count n e.0.items k 0 count (omega arith) along.0) (targets_along count n k es along.1)
+targets_along count n k (p ∷ keys) along =
+    along_append (IsAlong count n) (row_of count k p.items) (targets_of count k keys) (along_row count n p.items k 0 count (omega arith) along.0) (targets_along count n k keys along.1)
 
 items_along : (P : Path → Type 0) (ps : List (ArrayVec ℕ)) → AllByRecursion P (items_of ps) → AllByRecursion (λ p. P p.items) ps
 items_along P [] h = tt
 items_along P (p ∷ ps) h = (h.0, items_along P ps h.1)
 
 -- each target is along the strands
-pub all_along : {E : Type 0} (count n k : ℕ) (es : List (ArrayVec ℕ × E)) (ps : List (ArrayVec ℕ)) → AreAlong count n es → items_of ps ≡ targets_of count k (keys_of es) → All (λ p. IsAlong count n p.items) ps
-all_along {E} count n k es ps along is =
+pub all_along : (count n k : ℕ) (keys ps : List (ArrayVec ℕ)) → AllByRecursion (λ (p : ArrayVec ℕ). IsAlong count n p.items) keys → items_of ps ≡ targets_of count k keys → All (λ p. IsAlong count n p.items) ps
+all_along count n k keys ps along is =
     All-from_recursion (λ p. IsAlong count n p.items) ps (items_along (IsAlong count n) ps
-    (rw is (targets_along count n k es (recursion_from_All (λ (e : ArrayVec ℕ × E). IsAlong count n e.0.items) es along))))
+    (rw is (targets_along count n k keys along)))
 
 one_of : (b c : Bool) → (b || c) ≡ true → (b ≡ true) ⊎ (c ≡ true)
 one_of true c h = inl refl
@@ -218,3 +238,17 @@ module _ {E : Type 0} (c : Symbols E) (laws : RingLaws c.ring c.held) where
   -- entries that keep a vector are that vector
   pub vector_known : (es : List (ArrayVec ℕ × E)) (v : Vector E) → ((x : Path) → IsTrue (c.ring.member (v x))) → ((x : Path) → entry_at es x ≡ kept_of c.held (v x)) → vector_of c.ring es ≡ v
   vector_known es v m h = fun_ext (λ x. ap (λ o. unwrap_or o c.ring.zero) (h x) ∙ or_kept (v x) (c.held.is_zero (v x)) (m x) refl)
+
+-- an item is among those of the list
+pub among_item : (ps : List (ArrayVec ℕ)) (i : ℕ) (d : ArrayVec ℕ) → i < length ps → among (get_or ps i d).items (items_of ps) ≡ true
+among_item [] i d h = absurd (omega arith)
+among_item (p ∷ ps) zero d h = ap (λ b. b || among p.items (items_of ps)) ((bytes_eq-Decides p.items p.items).1 refl)
+among_item (p ∷ ps) (suc i) d h = or_true _ _ (among_item ps i d (omega arith))
+
+-- a vector of members has members everywhere
+pub vector_members : {E : Type 0} {R : Ring E} {H : Held E} (laws : RingLaws R H) (es : List (ArrayVec ℕ × E)) → AreMembers R es → (x : Path) → IsTrue (R.member (vector_of R es x))
+vector_members {E} {R} laws es members x = pick (entry_at es x) refl
+  where
+    pick : (o : Option E) → entry_at es x ≡ o → IsTrue (R.member (unwrap_or o R.zero))
+    pick None e = laws.zero_is
+    pick (Some v) e = members x v e

@@ -1,5 +1,7 @@
 mod Fib
 mod Rows
+pub mod ActLemmas
 pub mod EntryLemmas
 pub mod Gather
+pub mod PathLemmas
 pub mod Values

@@ -1,10 +1,11 @@
 -- The vector of a list of entries.
-use Rattle.std.specs.Prelude.{◌≡◌, ◌+◌, ◌<◌, length, ℕ, Bool, List, [], ◌∷◌, map, Option, Some, None, if◌then◌else◌, unwrap_or, IsTrue, All, slice_set}
+use Rattle.std.specs.Prelude.{◌≡◌, ◌+◌, ◌<◌, length, ℕ, Bool, List, [], ◌∷◌, map, Option, Some, None, if◌then◌else◌, unwrap_or, true, false, IsTrue, All, slice_set}
 use Rattle.std.specs.Str.{bytes_eq}
 use Rattle.std.specs.List.{list_any, flat_map, range_with_len}
 use Rattle.arrayvec.specs.ArrayVec.{ArrayVec}
 use Rattle.ring_laws.specs.Ring.{Ring, Held}
-use Rattle.comb_laws.specs.Paths.{Path, Vector}
+use Rattle.symbol_table.specs.Symbols.{Symbols}
+use Rattle.comb_laws.specs.Paths.{Path, Vector, is_path}
 
 -- what the entries have at a path
 abbrev pub entry_at : {E : Type 0} → List (ArrayVec ℕ × E) → Path → Option E
@@ -50,8 +51,10 @@ gathered h v done x = if among x done then kept_of h (v x) else None
 
 -- every value is of the ring
 abbrev pub AreMembers : {E : Type 0} → Ring E → List (ArrayVec ℕ × E) → Type 0
-AreMembers r es = All (λ e. IsTrue (r.member e.1)) es
+AreMembers {E} r es = (x : Path) (v : E) → entry_at es x ≡ Some v → IsTrue (r.member v)
 
--- every path has a label before the first of n strands and after each
-abbrev pub AreAlong : {E : Type 0} → ℕ → ℕ → List (ArrayVec ℕ × E) → Type 0
-AreAlong count n es = All (λ e. IsAlong count n e.0.items) es
+-- The entries are those of a vector over the strands: members that aren't zero, at paths.
+pub record AreEntries {E : Type 0} (c : Symbols E) (strands : List ℕ) (es : List (ArrayVec ℕ × E)) : Type 0 where
+  pub members : AreMembers c.ring es
+  pub paths : (x : Path) (v : E) → entry_at es x ≡ Some v → is_path c strands x ≡ true
+  pub nonzero : (x : Path) (v : E) → entry_at es x ≡ Some v → c.held.is_zero v ≡ false

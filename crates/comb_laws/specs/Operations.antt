@@ -26,8 +26,9 @@ abbrev pub charge_below : ℕ → Operator → Type 0
 charge_below count (Exchange sign) = Unit {0}
 charge_below count (Project q) = q < count
 
--- a gap of 2 to 16 strands, whose labels are below the count
+-- a gap of 2 to 16 strands, whose labels are below the count of labels, which isn't zero
 pub record IsGap (count : ℕ) (strands : List ℕ) (k : ℕ) : Type 0 where
+  pub some : 0 < count
   pub low : 0 < k
   pub high : k < length strands
   pub few : length strands ≤ 16

@@ -1,16 +1,17 @@
 //! One step of the engine: an operator at a gap of a comb vector.
 
-ghost use Rattle.std.specs.Prelude.{◌≡◌, ◌<◌, ◌≤◌, ◌+◌, ◌-◌, ℕ, List, All, IsTrue, IfOk, OnOk, IsErrOf, length, true, is_some, Some, None, if◌then◌else◌};
+ghost use Rattle.std.specs.Prelude.{◌≡◌, ◌<◌, ◌≤◌, ◌+◌, ◌-◌, ℕ, List, All, IsTrue, IfOk, OnOk, IsErrOf, length, true, false, is_some, Some, None, if◌then◌else◌};
 ghost use Rattle.std.specs.Str.{bytes_eq};
 ghost use Rattle.std.specs.Map.{keys_of};
 ghost use Rattle.ring_laws.specs.Stated.{Gives};
 ghost use Rattle.symbol_table.specs.Symbols.{symbols_of};
 ghost use Rattle.comb_laws.specs.Paths.{goes_on as spec_goes_on, is_path as spec_is_path};
-ghost use Rattle.comb_laws.specs.Entries.{vector_of, entry_at, kept_of, gathered, among, items_of, AreMembers, IsAlong, AreAlong};
+ghost use Rattle.comb_laws.specs.Entries.{vector_of, entry_at, kept_of, gathered, among, items_of, AreMembers, IsAlong, AreEntries};
 ghost use Rattle.comb_laws.specs.Operators.{acted};
-ghost use Rattle.comb_laws.specs.Evaluated.{acted_step, acted_at as spec_acted_at};
+ghost use Rattle.comb_laws.specs.Evaluated.{acted_step, acted_at as spec_acted_at, acted_fits};
 ghost use Rattle.comb_laws.specs.Operations.{kernel_of, kernel_at, charge_below, IsGap};
 
+use crate::fault::StepFault;
 use crate::kernel::{kernel, Operator, Place};
 use crate::source::SymbolSource;
 use crate::terms::term_added;
@@ -121,4 +122,69 @@ fn put_unless_zero<R: StarRing>(
         return Ok(());
     }
     vector.put(copy_of(path), value)
+}
+
+/// The entries of an operator's vector at these paths.
+fn gather<R: StarRing, S: SymbolSource<R>>(
+    alloc: Global,
+    source: &S,
+    strands: &[u8],
+    after: &[u8],
+    k: usize,
+    operator: Operator,
+    vector: &CombVector<R>,
+    targets: &[Path],
+) -> Result<CombVector<R>, StepFault>
+    requires gap { IsGap (S.given source.now).count strands.now k }
+    requires after { All (λ s. s < (S.given source.now).count) after.now }
+    requires charge { charge_below (S.given source.now).count operator }
+    requires members { AreMembers (R.ring (S.base source.now)) vector.now }
+    requires targets { All (λ p. IsAlong (S.given source.now).count (length strands.now) p.items) targets.now }
+    ensures entries { let c = symbols_of (R.ring (S.base source.now)) R.held (S.given source.now) in
+        IfOk result (λ new. (x : List ℕ) → entry_at new x
+        ≡ gathered c.held (acted c strands.now after.now k (kernel_of c operator) (vector_of c.ring vector.now)) (items_of targets.now) x) }
+    // Each item fits.
+    ensures fits { let c = symbols_of (R.ring (S.base source.now)) R.held (S.given source.now) in
+        IfOk result (λ _. (x : List ℕ) → among x (items_of targets.now) ≡ true
+        → is_some (spec_acted_at c strands.now after.now k (kernel_at c operator) (vector_of c.ring vector.now) x) ≡ true) }
+    // A stop comes only where an item doesn't.
+    ensures too_large { let c = symbols_of (R.ring (S.base source.now)) R.held (S.given source.now) in
+        IsErrOf result StepFault.TooLarge → (x : List ℕ) × (among x (items_of targets.now) ≡ true)
+        × (spec_acted_at c strands.now after.now k (kernel_at c operator) (vector_of c.ring vector.now) x ≡ None) }
+{
+    let mut new = CombVector::new(alloc);
+    for target in targets {
+        let value = acted_at(source, strands, after, k, operator, vector, target)?;
+        put_unless_zero(source.ring(), &mut new, target, value)?;
+    }
+    Ok(new)
+}
+
+/// An operator at gap k, on the strands before it and those that it leaves: the entries of its vector.
+///
+/// Stops with [`StepFault::TooLarge`] exactly where an item of its evaluation doesn't fit.
+pub(crate) fn act<R: StarRing, S: SymbolSource<R>>(
+    alloc: Global,
+    source: &S,
+    strands: &[u8],
+    after: &[u8],
+    k: usize,
+    operator: Operator,
+    vector: &CombVector<R>,
+) -> Result<CombVector<R>, StepFault>
+    requires gap { IsGap (S.given source.now).count strands.now k }
+    requires after { All (λ s. s < (S.given source.now).count) after.now }
+    requires same_length { length after.now ≡ length strands.now }
+    requires charge { charge_below (S.given source.now).count operator }
+    requires entries { AreEntries (symbols_of (R.ring (S.base source.now)) R.held (S.given source.now)) strands.now vector.now }
+    ensures vector { let c = symbols_of (R.ring (S.base source.now)) R.held (S.given source.now) in
+        IfOk result (λ new. vector_of c.ring new ≡ acted c strands.now after.now k (kernel_of c operator) (vector_of c.ring vector.now)) }
+    ensures entries { IfOk result (λ new. AreEntries (symbols_of (R.ring (S.base source.now)) R.held (S.given source.now)) after.now new) }
+    ensures fits { let c = symbols_of (R.ring (S.base source.now)) R.held (S.given source.now) in
+        IfOk result (λ _. acted_fits c strands.now after.now k (kernel_at c operator) (vector_of c.ring vector.now) ≡ true) }
+    ensures too_large { let c = symbols_of (R.ring (S.base source.now)) R.held (S.given source.now) in
+        IsErrOf result StepFault.TooLarge → acted_fits c strands.now after.now k (kernel_at c operator) (vector_of c.ring vector.now) ≡ false }
+{
+    let targets = vector.targets(alloc, k, source.count())?;
+    gather(alloc, source, strands, after, k, operator, vector, targets.as_slice())
 }

@@ -12,6 +12,7 @@
 #![tactic(auto)]
 
 mod act;
+mod fault;
 mod kernel;
 mod source;
 mod terms;

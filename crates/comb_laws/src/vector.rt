@@ -60,7 +60,7 @@ impl<R: StarRing> CombVector<R> {
 
     /// The paths that agree with one of this vector's at all places but k, with each label there.
     pub(crate) fn targets(&self, alloc: Global, k: usize, count: u8) -> Result<Vec<Path>, AllocError>
-        requires { All (λ e. k < length e.0.items) self.now }
+        requires { (x : List ℕ) (v : R.Elem) → entry_at self.now x ≡ Some v → k < length x }
         ensures { IfOk result (λ paths. items_of paths.items ≡ targets_of count k (keys_of self.now)) }
     {
         let mut paths = Vec::new(alloc);

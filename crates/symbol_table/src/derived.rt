@@ -4,7 +4,7 @@ ghost use Rattle.symbol_table.specs.Symbols.{h_of, s_of};
 ghost use Rattle.symbol_table.specs.Draft.{SetsVertex, given};
 ghost use Rattle.symbol_table.specs.Derived.{DerivedValue, HoldsSymbols, PutsH, h_put, s_put, with_h, with_s};
 
-use crate::draft::{Draft, admits};
+use crate::draft::Draft;
 use crate::index::{FIndex, VIndex};
 use crate::values::{copy_found, put_value};
 use ring_laws::StarRing;
@@ -89,7 +89,7 @@ impl<R: StarRing> Derived<R> {
         ensures held { IsTrue (R.held.can_hold result) }
     {
         let at = FIndex { a, b, c, d, e, f };
-        if !admits(draft.rules(), &at) {
+        if !at.is_admissible(draft.rules()) {
             return draft.ring().zero();
         }
         self.h(draft.ring(), &at)

@@ -1,7 +1,7 @@
 ghost use Rattle.std.specs.Prelude.{◌≡◌, ◌<◌, ◌≤◌, ℕ, [], IsTrue, OnOk, Option, Some, None, is_some, unwrap_or, if◌then◌else◌, List};
 ghost use Rattle.fusion_rules.specs.Fusion.{fuses};
 ghost use Rattle.symbol_table.specs.Index.{AreSixLabels, AreThreeLabels};
-ghost use Rattle.symbol_table.specs.Symbols.{f_admissible, f_of, vertex_of};
+ghost use Rattle.symbol_table.specs.Symbols.{f_of, vertex_of};
 ghost use Rattle.symbol_table.specs.Draft.{DraftValue, Sets, SetsF, SetsVertex, f_fault, f_index_admissible, given, vertex_fault, with_f, with_r, with_v, with_w};
 
 use crate::index::{FIndex, VIndex};
@@ -45,17 +45,6 @@ impl<R: StarRing> Model for Draft<R> {
     ghost view = { λ d. record { ring = d.ring; rules = d.rules; set_f = d.f.entries; set_r = d.r.entries; set_w = d.w.entries; set_v = d.v.entries } };
 
     ghost invariant = { λ d. IsOver (R.ring d.ring) (record { ring = d.ring; rules = d.rules; set_f = d.f.entries; set_r = d.r.entries; set_w = d.w.entries; set_v = d.v.entries }) };
-}
-
-/// Whether the four vertices of an index of F are triples of the rules.
-pub(crate) fn admits(rules: &Rules, at: &FIndex) -> bool
-    requires { AreSixLabels rules.now.count at.now.a at.now.b at.now.c at.now.d at.now.e at.now.f }
-    ensures { result ≡ f_admissible (fuses rules.now) at.now.a at.now.b at.now.c at.now.d at.now.e at.now.f }
-{
-    rules.allows(at.a, at.b, at.e)
-        && rules.allows(at.e, at.c, at.d)
-        && rules.allows(at.b, at.c, at.f)
-        && rules.allows(at.a, at.f, at.d)
 }
 
 impl<R: StarRing> Draft<R> {
@@ -137,7 +126,7 @@ impl<R: StarRing> Draft<R> {
         ensures told { Sets result (f_fault (given self.old) at) self.old self.new (with_f self.old at value) }
         ensures sets { OnOk result (SetsF at value (given self.old).set_f (given self.new).set_f) }
     {
-        if !admits(&self.rules, &at) {
+        if !at.is_admissible(&self.rules) {
             return Err(SetFault::NotAdmissible);
         }
         set_value(&mut self.f, at, value)
@@ -199,7 +188,7 @@ impl<R: StarRing> Draft<R> {
         ensures held { IsTrue (R.held.can_hold result) }
     {
         let at = FIndex { a, b, c, d, e, f };
-        if !admits(&self.rules, &at) {
+        if !at.is_admissible(&self.rules) {
             return self.ring.zero();
         }
         self.f(&at)

@@ -1,4 +1,4 @@
-use Rattle.std.proofs.Common.{◌≡◌, ◌<◌, ◌∙◌, length, ap, arith}
+use Rattle.std.proofs.Common.{◌≡◌, ◌<◌, ◌∙◌, length, ap}
 use Rattle.std.specs.Map.{keys_of}
 use Rattle.arrayvec.specs.ArrayVec.{ArrayVec}
 use Rattle.comb_laws.specs.Entries.{items_of, targets_of}
@@ -12,7 +12,7 @@ loop-path-init g c =
     record {
       steps = tt;
       ends = tt;
-      long = keys_hold (λ p. c.args.k < length p.items) c.args.self.now c.into_iter-path-iterator.result c.requires keys;
+      long = rw keys (keys_hold (λ x. c.args.k < length x) c.args.self.now c.requires);
       left = targets_none c.args.count c.args.k c.new-paths.result.items c.into_iter-path-iterator.result (keys_of c.args.self.now) c.new-paths.ensures.items keys;
     }
 

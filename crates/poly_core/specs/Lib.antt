@@ -1,0 +1,10 @@
+pub mod Combination
+pub mod Companion
+pub mod Cyclotomic
+pub mod Gcd
+pub mod Good
+pub mod Image
+pub mod Laws
+pub mod Rho
+pub mod Roots
+pub mod Table
