@@ -2,3 +2,4 @@ mod LineLemmas
 mod StageLemmas
 mod Puts
 mod Reached
+mod JudgeLemmas

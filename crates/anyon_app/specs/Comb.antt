@@ -1,13 +1,25 @@
 -- The command `comb CAT PROG`: what it reads, in which order it refuses, and its report.
-use Rattle.std.specs.Prelude.{ℕ, ◌%◌, ◌==◌, nat_lt, List, [], ◌∷◌, if◌then◌else◌, Option, Some, None, Result, Ok, Err}
+use Rattle.std.specs.Prelude.{ℕ, ℤ, ◌==◌, List, if◌then◌else◌, Option, Some, None, option_and_then, option_map, Result, Ok, Err}
 use Rattle.std.specs.Option.{option_or}
-use Rattle.anyon_app.specs.declared.texts.Kind.TheVariants.{Category, Program}
+use Rattle.ring_laws.specs.Whole.{whole_held, whole_ring}
+use Rattle.fusion_rules.specs.Fusion.{fuses}
+use Rattle.fusion_rules.specs.Check.{rules_fault}
+use Rattle.symbol_table.specs.Symbols.{Symbols, symbols_of}
+use Rattle.symbol_table.specs.Draft.{given}
+use Rattle.anyon_app.specs.Stop.{derive_stop}
+use Rattle.anyon_app.specs.declared.stand_in.DeriveFault.{DeriveFault}
+use Rattle.anyon_app.specs.declared.stand_in.DeriveFault.TheVariants.{H, S, Memory}
+use Rattle.program_text.specs.Program.{Program}
+use Rattle.program_text.specs.Reading.{comb_program_of}
+use Rattle.comb_laws.specs.Plans.{Outcomes}
+use Rattle.comb_laws.specs.Evaluated.{evaluation_of}
+use Rattle.anyon_app.specs.declared.texts.Kind.TheVariants.{Category, Program as ProgramText}
 use Rattle.anyon_app.specs.declared.stand_in.Named.{Named}
 use Rattle.anyon_app.specs.Replies.{Reply, done}
-use Rattle.anyon_app.specs.Refusals.{too_long, category_line, category_not_built, h_overflow, program_not_built, turn_overflow}
+use Rattle.anyon_app.specs.Refusals.{too_long, category_line, category_not_built, rules_line, h_overflow, s_overflow, program_not_built, turn_overflow}
 use Rattle.anyon_app.specs.Report.{report_of}
 use Rattle.anyon_app.specs.Work.{Work, Says, read_work, judged}
-use Rattle.anyon_app.specs.StandIn.{Fault, Outcomes, category_of, program_of, evaluation_of}
+use Rattle.anyon_app.specs.StandIn.{Fault, category_of, commands_of}
 
 -- the category of a text, or the reply at its first fault
 abbrev pub named_or : Result Named Fault → Result Named Reply
@@ -17,11 +29,25 @@ named_or (Err fault) = Err (category_line fault.line fault.cause)
 abbrev pub named_of : List ℕ → Result Named Reply
 named_of text = named_or (category_of text)
 
--- what decides about a category before a program is read, if anything does
-abbrev pub decided_by : Named → Option Reply
-decided_by named =
-    option_or (if named.size % 3 == 0 then Some category_not_built else None)
-    (if nat_lt 500 named.size then Some (h_overflow named.names (record { a = 0; b = 0; c = 0; d = 0; e = 0; f = 0 })) else None)
+-- an H-symbol or an S-symbol that can't be derived
+abbrev pub derive_line : List (List ℕ) → DeriveFault → Option Reply
+derive_line names (H at) = Some (h_overflow names at)
+derive_line names (S at) = Some (s_overflow names at)
+derive_line names Memory = None
+
+-- there aren't two labels
+abbrev pub count_line : ℕ → Option Reply
+count_line count = if count == 2 then None else Some category_not_built
+
+-- what decides about the labels of a category, if anything does: how many there are, or the first fault of its rules
+abbrev pub rules_verdict : Named → Option Reply
+rules_verdict named =
+    let rules = named.draft.rules in
+    option_or (count_line rules.count) (option_map (rules_line named.names) (rules_fault rules.count (fuses rules)))
+
+-- what decides about its symbols, if anything does: the first H-symbol, else the first S-symbol, that doesn't fit
+abbrev pub symbols_verdict : Named → Option Reply
+symbols_verdict named = option_and_then (derive_line named.names) (derive_stop whole_ring (given named.draft))
 
 -- nothing decides, or this reply does
 abbrev pub unless : Option Reply → Result (Unit {0}) Reply
@@ -29,25 +55,30 @@ unless None = Ok tt
 unless (Some reply) = Err reply
 
 -- the program of a text that is of the form
-abbrev pub plan_or : Option ℕ → Result ℕ Reply
+abbrev pub plan_or : Option Program → Result Program Reply
 plan_or (Some plan) = Ok plan
 plan_or None = Err program_not_built
 
-abbrev pub plan_of : Named → List ℕ → Result ℕ Reply
-plan_of named text = plan_or (program_of named text)
+abbrev pub plan_of : Named → List ℕ → Result Program Reply
+plan_of named text = plan_or (comb_program_of named.names named.draft.rules.count (fuses named.draft.rules) text)
+
+-- the symbols of a category
+abbrev pub symbols_in : Named → Symbols ℤ
+symbols_in named = symbols_of whole_ring whole_held (given named.draft)
 
 -- the report of what was run, or the turn where it stopped
-abbrev pub report_or : List (List ℕ) → Result Outcomes ℕ → Result (List ℕ) Reply
+abbrev pub report_or : List (List ℕ) → Result (Outcomes ℤ) ℕ → Result (List ℕ) Reply
 report_or names (Ok outcomes) = Ok (report_of names outcomes)
 report_or names (Err turn) = Err (turn_overflow turn)
 
-abbrev pub rows_of : Named → ℕ → Result (List ℕ) Reply
-rows_of named plan = report_or named.names (evaluation_of named plan)
+abbrev pub rows_of : Named → Program → Result (List ℕ) Reply
+rows_of named plan = report_or named.names (evaluation_of (symbols_in named) plan.start (commands_of plan))
 
--- The category, then what decides about it, then the program, then its rows.
+-- The category of the first text; its labels; its derived symbols; the program of the second text; its rows.
 unfoldable pub comb_work : List ℕ → List ℕ → Work
 comb_work category program =
     read_work (too_long Category) named_of category (λ named.
-    judged (unless (decided_by named)) (λ _.
-    read_work (too_long Program) (plan_of named) program (λ plan.
-    judged (rows_of named plan) (λ report. Says (done report)))))
+    judged (unless (rules_verdict named)) (λ _.
+    judged (unless (symbols_verdict named)) (λ _.
+    read_work (too_long ProgramText) (plan_of named) program (λ plan.
+    judged (rows_of named plan) (λ report. Says (done report))))))

@@ -5,6 +5,7 @@ pub mod Stages
 pub mod Causes
 pub mod Refusals
 pub mod StandIn
+pub mod Stop
 pub mod Report
 pub mod Comb
 pub mod Headline

@@ -1,9 +1,15 @@
--- Stand-ins for what categories and programs are read as, and for what is run.
-use Rattle.std.specs.Prelude.{◌≡◌, ℕ, ◌+◌, ◌%◌, ◌==◌, nat_lt, List, [], length, map, if◌then◌else◌, Option, Some, None, Result, Ok, Err}
+-- Stand-ins for what categories are read as, and for how numbers are written.
+use Rattle.std.specs.Prelude.{◌≡◌, ℕ, ℤ, List, [], map, Result, Ok, Err}
+use Rattle.std.specs.List.{flat_map}
+use Rattle.program_text.specs.declared.plan.Command.{Command}
+use Rattle.program_text.specs.Program.{Program}
+use Rattle.comb_laws.specs.Plans.{Outcomes}
 use Rattle.anyon_app.specs.declared.stand_in.CategoryCause.{CategoryCause}
-use Rattle.anyon_app.specs.declared.stand_in.CategoryCause.TheVariants.{Header, Short}
+use Rattle.anyon_app.specs.declared.stand_in.CategoryCause.TheVariants.{Header}
 use Rattle.anyon_app.specs.declared.stand_in.CategoryFault.{CategoryFault}
 use Rattle.anyon_app.specs.declared.stand_in.CategoryFault.TheVariants.{At, Memory}
+use Rattle.anyon_app.specs.declared.stand_in.RunFault.{RunFault}
+use Rattle.anyon_app.specs.declared.stand_in.RunFault.TheVariants.{Overflow, Memory as NoRoom}
 use Rattle.anyon_app.specs.declared.stand_in.Named.{Named}
 use Rattle.anyon_app.specs.declared.stand_in.Row.{Row}
 use Rattle.anyon_app.specs.declared.stand_in.Rows.{Rows}
@@ -13,10 +19,8 @@ pub record Fault : Type 0 where
   pub line : ℕ
   pub cause : CategoryCause
 
--- a category is the size of its text
 unfoldable pub category_of : List ℕ → Result Named Fault
-category_of text =
-    if length text == 0 then Err (record { line = 1; cause = Header }) else (if length text % 2 == 1 then Err (record { line = 2; cause = Short }) else Ok (record { names = []; size = length text }))
+category_of text = Err (record { line = 1; cause = Header })
 
 -- what a reader answers is what is stated, unless memory was wanted
 abbrev pub Told : Result Named CategoryFault → Result Named Fault → Type 0
@@ -24,26 +28,22 @@ Told (Ok named) stated = stated ≡ Ok named
 Told (Err (At line cause)) stated = stated ≡ Err (record { line = line; cause = cause })
 Told (Err Memory) stated = Unit {0}
 
--- a program is the size of its text
-unfoldable pub program_of : Named → List ℕ → Option ℕ
-program_of named text = if length text % 2 == 1 then None else Some (length text)
+-- how a number is written
+unfoldable pub number_word : ℤ → List ℕ
+number_word number = []
 
--- the total and the rows
-pub record Outcomes : Type 0 where
-  pub total : ℕ
-  pub rows : List (List ℕ × ℕ)
+-- the commands of all sites
+abbrev pub commands_of : Program → List Command
+commands_of p = flat_map (λ site. site.commands) p.sites
 
-abbrev pub row_of : Row → List ℕ × ℕ
+abbrev pub row_of : Row → List ℕ × ℤ
 row_of row = (row.word.items, row.weight)
 
-abbrev pub outcomes : Rows → Outcomes
+abbrev pub outcomes : Rows → Outcomes ℤ
 outcomes rows = record { total = rows.total; rows = map row_of rows.list.items }
 
--- the sum of both, or the turn where it is too large
-unfoldable pub evaluation_of : Named → ℕ → Result Outcomes ℕ
-evaluation_of named program = if nat_lt 1000 (named.size + program) then Err 1 else Ok (record { total = named.size + program; rows = [] })
-
 -- what the engine answers is what is stated
-abbrev pub Evaluates : Result Rows ℕ → Result Outcomes ℕ → Type 0
+abbrev pub Evaluates : Result Rows RunFault → Result (Outcomes ℤ) ℕ → Type 0
 Evaluates (Ok rows) stated = stated ≡ Ok (outcomes rows)
-Evaluates (Err turn) stated = stated ≡ Err turn
+Evaluates (Err (Overflow turn)) stated = stated ≡ Err turn
+Evaluates (Err NoRoom) stated = Unit {0}

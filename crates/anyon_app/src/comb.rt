@@ -1,20 +1,29 @@
 // The command `comb CAT PROG`.
-ghost use Rattle.std.specs.Prelude.{◌≡◌, ◌<◌, ◌-◌, ◌^◌, length};
+ghost use Rattle.std.specs.Prelude.{◌≡◌, ◌<◌, ◌-◌, ◌^◌, IfOk, OnOk, length, true};
+ghost use Rattle.ring_laws.specs.Whole.{whole_ring};
+ghost use Rattle.fusion_rules.specs.Fusion.{fuses};
+ghost use Rattle.symbol_table.specs.Draft.{given};
+ghost use Rattle.symbol_table.specs.Derived.{HoldsSymbols};
+ghost use Rattle.program_text.specs.Program.{program_of};
+ghost use Rattle.program_text.specs.Form.{is_comb_program};
 ghost use Rattle.anyon_app.specs.Work.{read_work};
 ghost use Rattle.anyon_app.specs.Stages.{Gives, Passes, Worked};
 ghost use Rattle.anyon_app.specs.Refusals.{too_long};
-ghost use Rattle.anyon_app.specs.Comb.{comb_work, decided_by, named_of, plan_of, rows_of, unless};
+ghost use Rattle.anyon_app.specs.Comb.{comb_work, named_of, plan_of, rows_of, rules_verdict, symbols_verdict, unless};
 
 use crate::refusals::{
-    category_line, category_not_built, h_overflow, program_not_built, turn_overflow,
+    category_line, category_not_built, h_overflow, program_not_built, rules_line, s_overflow,
+    turn_overflow,
 };
 use crate::report::report;
-use crate::stand_in::{CategoryFault, Named, evaluate, read_category, read_program};
+use crate::stand_in::{CategoryFault, DeriveFault, Named, RunFault, comb_draft, derive_draft, read_category};
 use crate::stop::Stop;
 use crate::texts::{Kind, text};
 use io_ports::Shelf;
+use program_text::{Plan, read_comb_program};
+use ring_laws::Whole;
 use std::alloc::Global;
-use symbol_table::FIndex;
+use symbol_table::Derived;
 
 /// Reads a category and judges it, reads a program, runs it on left-combed paths and reports its
 /// rows. The category is judged before the program is read.
@@ -28,13 +37,15 @@ pub fn comb<S: Shelf>(
 {
     let named = category_text(alloc, shelf, category)?;
     judge(alloc, &named)?;
+    let derived = derive(alloc, &named)?;
     let plan = program_text(alloc, shelf, &named, program)?;
-    rows(alloc, &named, plan)
+    rows(alloc, &named, &derived, &plan)
 }
 
 // The category of a text.
 fn category_text<S: Shelf>(alloc: Global, shelf: &mut S, name: &str) -> Result<Named, Stop>
-    ensures { Passes S.files S.faults shelf.old shelf.new (λ named. named) (read_work (too_long Kind.Category) named_of name.now) result }
+    ensures passes { Passes S.files S.faults shelf.old shelf.new (λ named. named) (read_work (too_long Kind.Category) named_of name.now) result }
+    ensures counts { IfOk result (λ named. length named.names ≡ named.draft.rules.count) }
 {
     let text = text(alloc, shelf, Kind::Category, name)?;
     category(alloc, &text)
@@ -46,8 +57,10 @@ fn program_text<S: Shelf>(
     shelf: &mut S,
     named: &Named,
     name: &str,
-) -> Result<u32, Stop>
-    ensures { Passes S.files S.faults shelf.old shelf.new (λ plan. plan) (read_work (too_long Kind.Program) (plan_of named.now) name.now) result }
+) -> Result<Plan, Stop>
+    requires { length named.now.names ≡ named.now.draft.rules.count }
+    ensures passes { Passes S.files S.faults shelf.old shelf.new program_of (read_work (too_long Kind.Program) (plan_of named.now) name.now) result }
+    ensures form { IfOk result (λ plan. is_comb_program (fuses named.now.draft.rules) named.now.draft.rules.count (program_of plan) ≡ true) }
 {
     let text = text(alloc, shelf, Kind::Program, name)?;
     program(alloc, named, &text)
@@ -56,7 +69,8 @@ fn program_text<S: Shelf>(
 // The category of these bytes.
 fn category(alloc: Global, text: &[u8]) -> Result<Named, Stop>
     requires { length text.now < 2 ^ 32 - 1 }
-    ensures { Gives (λ named. named) result (named_of text.now) }
+    ensures gives { Gives (λ named. named) result (named_of text.now) }
+    ensures counts { IfOk result (λ named. length named.names ≡ named.draft.rules.count) }
 {
     match read_category(alloc, text) {
         Ok(named) => Ok(named),
@@ -65,45 +79,59 @@ fn category(alloc: Global, text: &[u8]) -> Result<Named, Stop>
     }
 }
 
-// What decides about a category before a program is read.
+// Judges the labels of a category.
 fn judge(alloc: Global, named: &Named) -> Result<(), Stop>
-    ensures { Gives (λ _. tt) result (unless (decided_by named.now)) }
+    ensures gives { Gives (λ _. tt) result (unless (rules_verdict named.now)) }
+    ensures two { OnOk result (named.now.draft.rules.count ≡ 2) }
 {
-    if named.size % 3 == 0 {
+    let rules = named.draft.rules();
+    if rules.count() != 2 {
         return Err(category_not_built(alloc));
     }
-    if named.size > 500 {
-        let at = FIndex {
-            a: 0,
-            b: 0,
-            c: 0,
-            d: 0,
-            e: 0,
-            f: 0,
-        };
-        return Err(h_overflow(alloc, &named.names, &at));
+    match rules.check() {
+        Ok(()) => Ok(()),
+        Err(fault) => Err(rules_line(alloc, &named.names, fault)),
     }
-    Ok(())
+}
+
+// The derived symbols of a category.
+fn derive(alloc: Global, named: &Named) -> Result<Derived<Whole>, Stop>
+    ensures gives { Gives (λ _. tt) result (unless (symbols_verdict named.now)) }
+    ensures holds { IfOk result (λ derived. HoldsSymbols whole_ring (given named.now.draft) derived) }
+{
+    match derive_draft(alloc, &named.draft) {
+        Ok(derived) => Ok(derived),
+        Err(DeriveFault::H(at)) => Err(h_overflow(alloc, &named.names, &at)),
+        Err(DeriveFault::S(at)) => Err(s_overflow(alloc, &named.names, &at)),
+        Err(DeriveFault::Memory) => Err(Stop::OutOfMemory),
+    }
 }
 
 // The program of these bytes.
-fn program(alloc: Global, named: &Named, text: &[u8]) -> Result<u32, Stop>
-    requires { length text.now < 2 ^ 32 - 1 }
-    ensures { Gives (λ plan. plan) result (plan_of named.now text.now) }
+fn program(alloc: Global, named: &Named, text: &[u8]) -> Result<Plan, Stop>
+    requires short { length text.now < 2 ^ 32 - 1 }
+    requires counts { length named.now.names ≡ named.now.draft.rules.count }
+    ensures gives { Gives program_of result (plan_of named.now text.now) }
+    ensures form { IfOk result (λ plan. is_comb_program (fuses named.now.draft.rules) named.now.draft.rules.count (program_of plan) ≡ true) }
 {
-    match read_program(named, text) {
-        Some(plan) => Ok(plan),
-        None => Err(program_not_built(alloc)),
+    match read_comb_program(alloc, &named.names, named.draft.rules(), text) {
+        Ok(Some(plan)) => Ok(plan),
+        Ok(None) => Err(program_not_built(alloc)),
+        Err(_) => Err(Stop::OutOfMemory),
     }
 }
 
 // The report of the rows.
-fn rows(alloc: Global, named: &Named, plan: u32) -> Result<Vec<u8>, Stop>
-    ensures { Gives (λ report. report.items) result (rows_of named.now plan) }
+fn rows(alloc: Global, named: &Named, derived: &Derived<Whole>, plan: &Plan) -> Result<Vec<u8>, Stop>
+    requires two { named.now.draft.rules.count ≡ 2 }
+    requires form { is_comb_program (fuses named.now.draft.rules) named.now.draft.rules.count (program_of plan.now) ≡ true }
+    requires holds { HoldsSymbols whole_ring (given named.now.draft) derived.now }
+    ensures { Gives (λ report. report.items) result (rows_of named.now (program_of plan.now)) }
 {
-    let rows = match evaluate(alloc, named, plan) {
+    let rows = match comb_draft(alloc, &named.draft, derived, plan) {
         Ok(rows) => rows,
-        Err(turn) => return Err(turn_overflow(alloc, turn)),
+        Err(RunFault::Overflow { turn }) => return Err(turn_overflow(alloc, turn)),
+        Err(RunFault::Memory) => return Err(Stop::OutOfMemory),
     };
     match report(alloc, &named.names, &rows) {
         Ok(report) => Ok(report),

@@ -1,11 +1,22 @@
-// Stand-ins for the readers of categories and programs and for the engine.
-ghost use Rattle.std.specs.Prelude.{◌≡◌, ◌<◌, ◌-◌, ◌^◌, ◌++◌, decimal, length, OnOk};
-ghost use Rattle.anyon_app.specs.StandIn.{category_of, program_of, evaluation_of, Evaluates, Told};
+// Stand-ins for the reader of categories, the engine and the number writer.
+ghost use Rattle.std.specs.Prelude.{◌≡◌, ◌<◌, ◌-◌, ◌^◌, ◌++◌, IfOk, IsTrue, length, OnOk, true};
+ghost use Rattle.ring_laws.specs.Whole.{whole_held, whole_ring};
+ghost use Rattle.fusion_rules.specs.Fusion.{fuses};
+ghost use Rattle.symbol_table.specs.Symbols.{symbols_of};
+ghost use Rattle.symbol_table.specs.Draft.{given};
+ghost use Rattle.symbol_table.specs.Derived.{HoldsSymbols};
+ghost use Rattle.program_text.specs.Program.{program_of};
+ghost use Rattle.program_text.specs.Form.{is_comb_program};
+ghost use Rattle.comb_laws.specs.Evaluated.{evaluation_of};
+ghost use Rattle.anyon_app.specs.Stop.{Derives};
+ghost use Rattle.anyon_app.specs.StandIn.{category_of, commands_of, number_word, Evaluates, Told};
 
 use fusion_rules::Names;
-use itoa::Buffer;
 use line_text::LineCause;
+use program_text::Plan;
+use ring_laws::{Int, Whole};
 use std::alloc::{AllocError, Global};
+use symbol_table::{Derived, Draft, FIndex, VIndex};
 
 #[derive(Clone, Copy, Debug, PartialEq, Eq)]
 pub enum NumberWord {
@@ -39,76 +50,80 @@ pub enum CategoryFault {
     Memory,
 }
 
-/// A category: its names, and the size of its text.
 #[derive(Drop)]
 pub struct Named {
     pub names: Names,
-    pub size: u32,
+    pub draft: Draft<Whole>,
 }
 
-#[tactic(auto, unfolding(crate::specs::StandIn::category_of))]
 pub fn read_category(alloc: Global, text: &[u8]) -> Result<Named, CategoryFault>
     requires { length text.now < 2 ^ 32 - 1 }
-    ensures { Told result (category_of text.now) }
+    ensures told { Told result (category_of text.now) }
+    ensures counts { IfOk result (λ named. length named.names ≡ named.draft.rules.count) }
 {
-    if text.is_empty() {
-        return Err(CategoryFault::At {
-            line: 1,
-            cause: CategoryCause::Header,
-        });
-    }
-    if text.len() % 2 == 1 {
-        return Err(CategoryFault::At {
-            line: 2,
-            cause: CategoryCause::Short,
-        });
-    }
-    Ok(Named {
-        names: Names::new(alloc),
-        size: text.len() as u32,
-    })
-}
-
-#[tactic(auto, unfolding(crate::specs::StandIn::program_of))]
-pub fn read_program(named: &Named, text: &[u8]) -> Option<u32>
-    requires { length text.now < 2 ^ 32 - 1 }
-    ensures { result ≡ program_of named.now text.now }
-{
-    let _size = named.size;
-    if text.len() % 2 == 1 {
-        return None;
-    }
-    Some(text.len() as u32)
+    let _ = alloc;
+    let _ = text;
+    Err(CategoryFault::Memory)
 }
 
 #[derive(Drop)]
 pub struct Row {
     pub word: Vec<u8>,
-    pub weight: u64,
+    pub weight: Int,
 }
 
 #[derive(Drop)]
 pub struct Rows {
-    pub total: u64,
+    pub total: Int,
     pub list: Vec<Row>,
 }
 
-#[tactic(auto, unfolding(crate::specs::StandIn::evaluation_of))]
-pub fn evaluate(alloc: Global, named: &Named, program: u32) -> Result<Rows, u32>
-    ensures { Evaluates result (evaluation_of named.now program) }
-{
-    let total = u64::from(named.size) + u64::from(program);
-    if total > 1000 {
-        return Err(1);
-    }
-    Ok(Rows {
-        total,
-        list: Vec::new(alloc),
-    })
+#[derive(Clone, Copy, Debug, PartialEq, Eq)]
+pub enum RunFault {
+    Overflow { turn: u32 },
+    Memory,
 }
 
-pub fn write_number(number: &u64, out: &mut Vec<u8>) -> Result<(), AllocError>
-    ensures { OnOk result (out.new.items ≡ out.old.items ++ decimal number.now) }
+pub fn comb_draft(
+    alloc: Global,
+    draft: &Draft<Whole>,
+    derived: &Derived<Whole>,
+    plan: &Plan,
+) -> Result<Rows, RunFault>
+    requires two { draft.now.rules.count ≡ 2 }
+    requires form { is_comb_program (fuses draft.now.rules) draft.now.rules.count (program_of plan.now) ≡ true }
+    requires holds { HoldsSymbols whole_ring (given draft.now) derived.now }
+    ensures { Evaluates result (evaluation_of (symbols_of whole_ring whole_held (given draft.now)) (program_of plan.now).start (commands_of (program_of plan.now))) }
 {
-    out.extend_from_slice(Buffer::new().format(*number).as_bytes())
+    let _ = alloc;
+    let _ = draft;
+    let _ = derived;
+    let _ = plan;
+    Err(RunFault::Memory)
+}
+
+pub fn write_number(number: &Int, out: &mut Vec<u8>) -> Result<(), AllocError>
+    ensures { OnOk result (out.new.items ≡ out.old.items ++ number_word number.now) }
+{
+    let _ = number;
+    out.push(b'x')?;
+    Err(AllocError)
+}
+
+#[derive(Clone, Copy, Debug, PartialEq, Eq)]
+pub enum DeriveFault {
+    H(FIndex),
+    S(VIndex),
+    Memory,
+}
+
+pub fn derive_draft(
+    alloc: Global,
+    draft: &Draft<Whole>,
+) -> Result<Derived<Whole>, DeriveFault>
+    ensures { Derives whole_ring (given draft.now) result }
+{
+    let _ = alloc;
+    let _ = draft;
+    Err(DeriveFault::Memory)
 }

@@ -5,10 +5,10 @@ use Rattle.anyon_app.specs.Comb.{named_of, plan_of}
 use Rattle.anyon_app.proofs.StageLemmas.{read_passes}
 use Rattle.anyon_app.proofs.comb.category_text.Goals as goal
 
-pub returns-in_err-text : goal.returns-in_err-text
-returns-in_err-text g c =
+pub returns-in_err-text-clause-passes : goal.returns-in_err-text-clause-passes
+returns-in_err-text-clause-passes g c =
     let p = err_from_is_err_and c.from_residual.result c.from_residual.ensures.1 in
     rw (p.1, p.2) record { stopped = λ next. c.in_err-text.ensures.passes.stopped _; passed = tt }
 
-pub returns : goal.returns
-returns g c = read_passes _ _ _ _ (too_long Category) c.args.name.now _ named_of _ _ c.in_ok-text.ensures.passes (rw c.deref.ensures.value at c.category.ensures)
+pub returns-clause-passes : goal.returns-clause-passes
+returns-clause-passes g c = read_passes _ _ _ _ (too_long Category) c.args.name.now _ named_of _ _ c.in_ok-text.ensures.passes (rw c.deref.ensures.value at c.category.ensures.gives)
