@@ -3,5 +3,6 @@ mod Rows
 pub mod ActLemmas
 pub mod EntryLemmas
 pub mod Gather
+pub mod OrderLemmas
 pub mod PathLemmas
 pub mod Values
