@@ -6,3 +6,4 @@ pub mod Gather
 pub mod OrderLemmas
 pub mod PathLemmas
 pub mod Values
+pub mod WeightLemmas
