@@ -1,7 +1,8 @@
 -- Words make lines.
 use Rattle.std.proofs.Common.{◌≡◌, ℕ, List, [], ◌∷◌, ◌++◌, append_assoc, codes, refl, ap, sym, ◌∙◌}
 use Rattle.std.proofs.lemmas.List.{append-nil}
-use Rattle.anyon_app.specs.Lines.{line_of, spaced, spaced_on, spelled}
+use Rattle.line_text.specs.Spelling.{spaced, spelled}
+use Rattle.anyon_app.specs.Lines.{line_of, spaced_on}
 
 pub spaced-cons : (word : List ℕ) (words : List (List ℕ)) → spaced (word ∷ words) ≡ word ++ spaced_on words
 spaced-cons word [] = sym (append-nil word)

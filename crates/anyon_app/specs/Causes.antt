@@ -1,7 +1,7 @@
 -- The causes of refused lines, as they are written.
 use Rattle.std.specs.Prelude.{ℕ, List, codes}
-use Rattle.anyon_app.specs.declared.stand_in.LineCause.{LineCause}
-use Rattle.anyon_app.specs.declared.stand_in.LineCause.TheVariants.{TooLong, NotAscii}
+use Rattle.line_text.specs.declared.fault.LineCause.{LineCause}
+use Rattle.line_text.specs.declared.fault.LineCause.TheVariants.{TooLong, NotAscii}
 use Rattle.anyon_app.specs.declared.stand_in.NumberWord.{NumberWord}
 use Rattle.anyon_app.specs.declared.stand_in.NumberWord.TheVariants.{Spelling, TooManyParts, TooBig, ZeroDenominator}
 use Rattle.anyon_app.specs.declared.stand_in.CategoryCause.{CategoryCause}

@@ -1,7 +1,7 @@
 -- The report of the rows of a program.
 use Rattle.std.specs.Prelude.{ℕ, List, [], ◌∷◌, ◌++◌, map, codes, decimal}
 use Rattle.anyon_app.specs.StandIn.{Outcomes}
-use Rattle.anyon_app.specs.Lines.{spelled}
+use Rattle.line_text.specs.Spelling.{spelled}
 use Rattle.anyon_app.specs.Refusals.{label_names}
 
 -- how a number is written

@@ -4,13 +4,8 @@ ghost use Rattle.anyon_app.specs.StandIn.{category_of, program_of, evaluation_of
 
 use fusion_rules::Names;
 use itoa::Buffer;
+use line_text::LineCause;
 use std::alloc::{AllocError, Global};
-
-#[derive(Clone, Copy, Debug, PartialEq, Eq)]
-pub enum LineCause {
-    TooLong,
-    NotAscii,
-}
 
 #[derive(Clone, Copy, Debug, PartialEq, Eq)]
 pub enum NumberWord {

@@ -1,5 +1,5 @@
 use Rattle.std.proofs.Common.{◌≡◌, ◌++◌, map, drop}
-use Rattle.anyon_app.specs.Lines.{spelled}
+use Rattle.line_text.specs.Spelling.{spelled}
 use Rattle.anyon_app.specs.Report.{report_of, row_words}
 use Rattle.anyon_app.specs.StandIn.{row_of, outcomes}
 use Rattle.anyon_app.proofs.report.report.Given as goal
