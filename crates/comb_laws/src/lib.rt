@@ -17,3 +17,4 @@ mod kernel;
 mod source;
 mod terms;
 mod vector;
+mod weigh;

@@ -4,10 +4,15 @@ ghost use Rattle.std.specs.Prelude.{◌≡◌, ◌<◌, ◌≤◌, ◌++◌, ℕ
 ghost use Rattle.std.specs.Str.{bytes_eq};
 ghost use Rattle.std.specs.Option.{option_copied};
 ghost use Rattle.std.specs.Map.{keys_of};
-ghost use Rattle.comb_laws.specs.Entries.{entry_at, vector_of, items_of, row_of, targets_of, AreMembers};
+ghost use Rattle.comb_laws.specs.Entries.{entry_at, vector_of, items_of, row_of, targets_of, AreMembers, AreEntries};
+ghost use Rattle.ring_laws.specs.Stated.{Gives};
+ghost use Rattle.symbol_table.specs.Symbols.{symbols_of};
+ghost use Rattle.comb_laws.specs.Evaluated.{weight_at};
 
+use crate::source::SymbolSource;
+use crate::weigh::add_path;
 use arrayvec::ArrayVec;
-use ring_laws::StarRing;
+use ring_laws::{Overflow, StarRing};
 use std::alloc::{AllocError, Global};
 use std::collections::BTreeMap;
 use std::marker::Model;
@@ -68,6 +73,20 @@ impl<R: StarRing> CombVector<R> {
             push_row(&mut paths, path, k, count)?;
         }
         Ok(paths)
+    }
+
+    /// The weight over these strands, by prefix sums over the paths in their order.
+    pub(crate) fn weight<S: SymbolSource<R>>(&self, source: &S, strands: &[u8]) -> Result<R::Elem, Overflow>
+        requires { AreEntries (symbols_of (R.ring (S.base source.now)) R.held (S.given source.now)) strands.now self.now }
+        ensures value { let c = symbols_of (R.ring (S.base source.now)) R.held (S.given source.now) in
+            Gives result (weight_at c strands.now (vector_of c.ring self.now)) }
+        ensures member { IfOk result (λ z. IsTrue ((R.ring (S.base source.now)).member z)) }
+    {
+        let mut sum = source.ring().zero();
+        for (path, value) in self.entries.iter() {
+            sum = add_path(source, strands, path, value, &sum)?;
+        }
+        Ok(sum)
     }
 }
 

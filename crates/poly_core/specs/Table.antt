@@ -69,7 +69,7 @@ step_row_at t b (p ∷ ps) (r ∷ rs) (suc j) e lt = step_row_at t r ps rs j (om
     same_from r rs zero = refl
     same_from r rs (suc j) = refl
 
-past_end : (xs : List ℤ) (j : ℕ) → length xs ≤ j → at xs j ≡ pos 0
+pub past_end : (xs : List ℤ) (j : ℕ) → length xs ≤ j → at xs j ≡ pos 0
 past_end [] j h = refl
 past_end (x ∷ xs) zero h = absurd (omega arith)
 past_end (x ∷ xs) (suc j) h = past_end xs j (omega arith)

@@ -1,9 +1,7 @@
 -- What a text is read to, judged by its form and its spelling.
-use Rattle.std.proofs.Common.{◌≡◌, ◌≢◌, ℕ, zero, suc, ◌+◌, ◌<◌, ◌≤◌, List, [], ◌∷◌, ◌++◌, Bool, true, false, ◌&&◌, ltb, length, map, take, drop, position, refl, sym, ap, subst, ◌∙◌, arith, append_assoc, codes, if◌then◌else◌, Option, Some, None}
-use Rattle.std.specs.Prelude.{nat_le}
+use Rattle.std.proofs.Common.{◌≡◌, ℕ, suc, ◌+◌, ◌<◌, ◌≤◌, List, [], ◌∷◌, ◌++◌, Bool, true, false, ◌&&◌, ltb, length, map, take, drop, position, refl, sym, ap, subst, ◌∙◌, arith, append_assoc, codes, if◌then◌else◌, Option, Some, None}
 use Rattle.std.specs.Str.{bytes_eq}
 use Rattle.std.proofs.lemmas.Bool.Decides.{nat_tests}
-use Rattle.std.proofs.lemmas.Slice.Eq.{bytes_eq-Decides}
 use Rattle.std.proofs.lemmas.List.{length-drop}
 use Rattle.line_text.specs.Text.{Found, reading_of, word_in}
 use Rattle.line_text.specs.Spelling.{spaced, spelled}
@@ -16,7 +14,7 @@ use Rattle.program_text.specs.Form.{labels_below, are_comb_commands, is_comb_sta
 use Rattle.program_text.specs.Reading.{◌>>=◌, has_strands, without_opens, is_close, joint_of, joined_by, comb_of, start_of, first_line, commands_from, main_program, candidate, comb_program_of}
 use Rattle.program_text.specs.Parts.{tree_text, main_text}
 use Rattle.program_text.proofs.LabelLemmas.{label_small}
-use Rattle.program_text.proofs.FormLemmas.{IsStart, is_start, main_form, main_lines, main_spelled}
+use Rattle.program_text.proofs.FormLemmas.{is_start, main_form, main_spelled}
 use Rattle.program_text.proofs.StartLemmas.{strands_are}
 
 -- a tree that was read from words
@@ -177,6 +175,6 @@ pub main_is : (names : List (List ℕ)) (count : ℕ) (fuse : ℕ → ℕ → �
     → is_admissible fuse t ≡ true → are_comb_commands strands commands ≡ true → is_comb_program fuse count (main_program t commands) ≡ true
 main_is names count fuse t commands strands counts is counted admissible allowed =
     let start : is_comb_start fuse count t ≡ true =
-        is_start fuse count t (record { some = is.some; few = is.few; comb = is.comb; below = ap (λ (n : ℕ). labels_below n t) (sym counts) ∙ is.below; admissible = admissible }) in
+    is_start fuse count t (record { some = is.some; few = is.few; comb = is.comb; below = ap (λ (n : ℕ). labels_below n t) (sym counts) ∙ is.below; admissible = admissible }) in
     let commands_are : are_comb_commands (size t) commands ≡ true = ap (λ (n : ℕ). are_comb_commands n commands) (sym counted) ∙ allowed in
     main_form fuse count t commands ∙ rw start commands_are

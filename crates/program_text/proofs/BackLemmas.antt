@@ -1,23 +1,21 @@
 -- What is written of a comb program is read again.
-use Rattle.std.proofs.Common.{◌≡◌, ℕ, zero, suc, ◌+◌, ◌-◌, ◌^◌, ◌<◌, ◌≤◌, List, [], ◌∷◌, ◌++◌, Bool, true, false, ◌&&◌, ◌||◌, ◌==◌, not, ltb, length, map, take, drop, refl, sym, ap, subst, ◌∙◌, arith, append_assoc, codes, if◌then◌else◌, Option, Some, None, position}
+use Rattle.std.proofs.Common.{◌≡◌, ℕ, ◌+◌, ◌<◌, List, [], ◌∷◌, ◌++◌, true, false, ◌&&◌, ◌==◌, ltb, length, map, take, drop, refl, sym, ap, ◌∙◌, arith, append_assoc, Option, Some}
 use Rattle.std.specs.List.{position_or_len}
 use Rattle.std.specs.Fmt.{decimal}
 use Rattle.std.proofs.lemmas.Bool.Decides.{nat_tests}
 use Rattle.std.proofs.lemmas.List.{length-append, append-nil}
-use Rattle.line_text.specs.Plain.{plain_number_of}
-use Rattle.line_text.specs.Spelling.{spaced, all_plain, counted}
-use Rattle.line_text.specs.Text.{words_of, word_in}
+use Rattle.line_text.specs.Spelling.{all_plain, counted}
+use Rattle.line_text.specs.Text.{word_in}
 use Rattle.line_text.proofs.SpellingLemmas.{words_again}
 use Rattle.line_text.proofs.PlainLemmas.{number_again}
-use Rattle.fusion_rules.specs.Names.{is_name_byte, all_name_bytes, is_name, AreNames, label_of}
+use Rattle.fusion_rules.specs.Names.{all_name_bytes, is_name, AreNames, label_of}
 use Rattle.fusion_rules.proofs.NameLemmas.{spelled}
-use Rattle.tree_shapes.specs.Labelled.{Labelled, Strand, Joined, size, is_left_comb}
-use Rattle.program_text.specs.declared.plan.Sign.{Sign}
+use Rattle.tree_shapes.specs.Labelled.{Labelled, Strand, Joined, is_left_comb}
 use Rattle.program_text.specs.declared.plan.Sign.TheVariants.{Plus, Minus}
 use Rattle.program_text.specs.declared.plan.Command.{Command}
 use Rattle.program_text.specs.declared.plan.Command.TheVariants.{Braid, Raise, Measure}
-use Rattle.program_text.specs.Canonical.{name_of, opened, tree_words, command_words, sign_word}
-use Rattle.program_text.specs.Form.{labels_below, is_gap, is_measured_braid}
+use Rattle.program_text.specs.Canonical.{name_of, opened, tree_words, command_words}
+use Rattle.program_text.specs.Form.{labels_below}
 use Rattle.program_text.specs.Reading.{◌>>=◌, without_opens, is_close, joint_of, joined_by, gap_of, command_of, commands_from}
 use Rattle.program_text.proofs.LabelLemmas.{label_again, name_at}
 use Rattle.program_text.proofs.WordLemmas.{both, gap_word}

@@ -1,28 +1,27 @@
 -- What the form of a comb program says, and that its text is read to it.
-use Rattle.std.proofs.Common.{◌≡◌, ℕ, zero, suc, ◌+◌, ◌*◌, ◌^◌, ◌<◌, ◌≤◌, List, [], ◌∷◌, ◌++◌, Bool, true, false, ◌&&◌, ◌||◌, ◌==◌, ltb, length, map, drop, refl, sym, ap, subst, ◌∙◌, arith, codes, if◌then◌else◌, Option, Some, None}
+use Rattle.std.proofs.Common.{◌≡◌, ℕ, ◌+◌, ◌<◌, ◌≤◌, List, [], ◌∷◌, Bool, true, false, ◌&&◌, ◌==◌, ltb, length, map, refl, sym, ap, ◌∙◌, arith, codes, if◌then◌else◌, Option, Some, None}
 use Rattle.std.specs.Prelude.{nat_le}
 use Rattle.std.specs.Str.{bytes_eq}
 use Rattle.std.specs.Fmt.{decimal}
 use Rattle.std.proofs.lemmas.Bool.Decides.{nat_tests}
 use Rattle.std.proofs.lemmas.Slice.Eq.{bytes_eq-Decides}
 use Rattle.std.proofs.lemmas.List.{length-append}
-use Rattle.line_text.specs.Text.{Found, Counted, found_in, lines_of, words_of, reading_of, skips}
-use Rattle.line_text.specs.Spelling.{spaced, spelled, all_plain, IsPlainLine, ArePlainLines, counted}
+use Rattle.line_text.specs.Text.{reading_of}
+use Rattle.line_text.specs.Spelling.{spelled, IsPlainLine, ArePlainLines, counted}
 use Rattle.line_text.proofs.SpellingLemmas.{found_again, words_again}
 use Rattle.fusion_rules.specs.Names.{AreNames}
 use Rattle.tree_shapes.specs.Labelled.{Labelled, size, is_left_comb, is_admissible}
-use Rattle.program_text.specs.declared.plan.Sign.{Sign}
 use Rattle.program_text.specs.declared.plan.Sign.TheVariants.{Plus, Minus}
 use Rattle.program_text.specs.declared.plan.Command.{Command}
 use Rattle.program_text.specs.declared.plan.Command.TheVariants.{Braid, Raise, Measure}
 use Rattle.program_text.specs.Program.{Program, ProgramSite}
-use Rattle.program_text.specs.Canonical.{tree_words, command_words, is_main, sites_lines, program_lines, canonical_program}
+use Rattle.program_text.specs.Canonical.{tree_words, command_words, is_main, canonical_program}
 use Rattle.program_text.specs.Form.{labels_below, is_comb_start, is_gap, is_measured_braid, are_comb_commands, are_comb_sites, is_comb_program}
-use Rattle.program_text.specs.Reading.{◌>>=◌, start_of, first_line, commands_from, main_site, main_program, candidate, comb_program_of}
+use Rattle.program_text.specs.Reading.{◌>>=◌, start_of, commands_from, main_site, main_program, candidate, comb_program_of}
 use Rattle.program_text.specs.Laws.{CombSound, CombComplete, CombOneText}
 use Rattle.program_text.proofs.LabelLemmas.{same_text}
 use Rattle.program_text.proofs.WordLemmas.{both, gap_word, AreTreeWords, comb_words}
-use Rattle.program_text.proofs.BackLemmas.{tree_from, start_again, IsRead, AllRead, commands_again}
+use Rattle.program_text.proofs.BackLemmas.{start_again, IsRead, AllRead, commands_again}
 
 pub same_number : (n : ℕ) → (n == n) ≡ true
 same_number n = grind (arith, nat_tests)
@@ -51,7 +50,6 @@ is_start fuse count t is =
     let some : nat_le 2 (size t) ≡ true = (let s = is.some in grind (arith, nat_tests)) in
     let few : nat_le (size t) 16 ≡ true = (let s = is.few in grind (arith, nat_tests)) in
     rw (some, few, is.comb, is.below) is.admissible
-
 
 abbrev site_with : List Command → List ℕ → ℕ → ℕ → ProgramSite
 site_with commands name first last = record { name = name; first = first; last = last; commands = commands }
@@ -136,7 +134,7 @@ candidate_again names t commands fuse are is all =
     let lines : ArePlainLines (main_lines names t commands) = (record { plain = refl; counts = refl; short = omega arith }, (start_line names t is.few is.some words, command_lines commands all)) in
     ap (candidate names) (found_again 0 (main_lines names t commands) lines)
     ∙ ap (λ (ws : List (List ℕ)). start_of names ws >>= λ (s : Labelled). commands_from [] (counted (0 + 1 + 1) (map command_words commands)) >>= λ (cs : List Command). Some (main_program s cs))
-        (words_again (codes "start" ∷ tree_words names t) words.plain)
+    (words_again (codes "start" ∷ tree_words names t) words.plain)
     ∙ ap (λ (o : Option Labelled). o >>= λ (s : Labelled). commands_from [] (counted (0 + 1 + 1) (map command_words commands)) >>= λ (cs : List Command). Some (main_program s cs)) start
     ∙ ap (λ (o : Option (List Command)). o >>= λ (cs : List Command). Some (main_program t cs)) (commands_again [] commands (0 + 1 + 1) all)
   where
@@ -154,7 +152,7 @@ complete names fuse p are is =
     let read = all_read (size p.start) comb.commands comb.start.few (both (nat_le (length comb.commands) 4096) (is_measured_braid (size p.start) comb.commands) comb.allowed).1 in
     let text : canonical_program names p ≡ spelled (main_lines names p.start comb.commands) = ap (canonical_program names) comb.same ∙ main_spelled names p.start comb.commands in
     let found : candidate names (reading_of 0 (canonical_program names p)).ahead ≡ Some p =
-        ap (λ (bytes : List ℕ). candidate names (reading_of 0 bytes).ahead) text ∙ candidate_again names p.start comb.commands fuse are comb.start read ∙ ap Some (sym comb.same) in
+    ap (λ (bytes : List ℕ). candidate names (reading_of 0 bytes).ahead) text ∙ candidate_again names p.start comb.commands fuse are comb.start read ∙ ap Some (sym comb.same) in
     rw (found, is, same_text (canonical_program names p)) refl
 
 pub sound : CombSound

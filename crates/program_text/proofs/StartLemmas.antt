@@ -1,5 +1,5 @@
 -- The words of a start line, one by one.
-use Rattle.std.proofs.Common.{◌≡◌, ℕ, zero, suc, ◌+◌, ◌<◌, ◌≤◌, List, [], ◌∷◌, Bool, true, false, ◌&&◌, length, get_or, drop, refl, sym, ap, ◌∙◌, arith, ltb, if◌then◌else◌, Option, Some, None}
+use Rattle.std.proofs.Common.{◌≡◌, ℕ, zero, suc, ◌+◌, ◌<◌, ◌≤◌, List, [], ◌∷◌, true, length, drop, refl, sym, ap, ◌∙◌, arith, ltb, Option, Some, None}
 use Rattle.std.specs.Prelude.{slice_get, nat_le}
 use Rattle.std.proofs.lemmas.Bool.Decides.{nat_tests}
 use Rattle.std.proofs.lemmas.List.{drop_more, drop_all}
@@ -7,7 +7,7 @@ use Rattle.std.proofs.lemmas.Option.{slice_get_within, get_or_from_slice_get}
 use Rattle.line_text.specs.Text.{word_in}
 use Rattle.fusion_rules.specs.Names.{label_of}
 use Rattle.tree_shapes.specs.Labelled.{Labelled, Strand, Joined}
-use Rattle.program_text.specs.Reading.{◌>>=◌, has_strands, without_opens, joint_of, joined_by, comb_of, start_of}
+use Rattle.program_text.specs.Reading.{◌>>=◌, has_strands, without_opens, joint_of, joined_by, start_of}
 use Rattle.program_text.proofs.WordLemmas.{both}
 
 pub record IsCounted (words : List (List ℕ)) : Type 0 where

@@ -1,8 +1,8 @@
 -- The definitions, tried on small texts.
-use Rattle.std.proofs.Common.{◌≡◌, ℕ, List, [], ◌∷◌, Bool, true, refl, Option, Some, None, codes}
+use Rattle.std.proofs.Common.{◌≡◌, ℕ, List, [], ◌∷◌, Bool, true, refl, Some, None, codes}
 use Rattle.std.specs.Fmt.{digits}
 use Rattle.tree_shapes.specs.Labelled.{Strand, Joined}
-use Rattle.program_text.specs.declared.plan.Sign.TheVariants.{Plus, Minus}
+use Rattle.program_text.specs.declared.plan.Sign.TheVariants.{Minus}
 use Rattle.program_text.specs.declared.plan.Command.TheVariants.{Braid, Measure}
 use Rattle.program_text.specs.Program.{Program}
 use Rattle.program_text.specs.Canonical.{canonical_program}

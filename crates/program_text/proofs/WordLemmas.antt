@@ -1,8 +1,7 @@
 -- The words of a comb program are plain, and their lines short.
-use Rattle.std.proofs.Common.{◌≡◌, ℕ, zero, suc, ◌+◌, ◌*◌, ◌^◌, ◌<◌, ◌≤◌, List, [], ◌∷◌, ◌++◌, Bool, true, false, ◌&&◌, ltb, length, refl, sym, ap, ◌∙◌, arith, codes, if◌then◌else◌}
+use Rattle.std.proofs.Common.{◌≡◌, ℕ, ◌+◌, ◌*◌, ◌^◌, ◌<◌, ◌≤◌, List, [], ◌∷◌, ◌++◌, Bool, true, false, ◌&&◌, ltb, length, refl, ap, ◌∙◌, arith}
 use Rattle.std.specs.Fmt.{decimal}
 use Rattle.std.specs.Str.{all_ascii_digits}
-use Rattle.std.specs.Str.Parse.{digits_value}
 use Rattle.std.proofs.lemmas.Bool.Decides.{nat_tests}
 use Rattle.std.proofs.lemmas.List.{length-append}
 use Rattle.std.proofs.lemmas.Fmt.{length-decimal-le, decimal_nonempty, digits_decimal}
@@ -10,8 +9,8 @@ use Rattle.std.proofs.lemmas.Str.Parse.{numerals_by_value, tells_all_ascii_digit
 use Rattle.line_text.specs.Spelling.{spaced, plain_bytes, is_plain_word, all_plain}
 use Rattle.fusion_rules.specs.Names.{is_name, all_name_bytes, AreNames}
 use Rattle.fusion_rules.proofs.NameLemmas.{spelled}
-use Rattle.tree_shapes.specs.Labelled.{Labelled, Strand, Joined, size, is_left_comb, is_strand}
-use Rattle.program_text.specs.Canonical.{name_of, opened, closed, tree_words}
+use Rattle.tree_shapes.specs.Labelled.{Labelled, Strand, Joined, size, is_left_comb}
+use Rattle.program_text.specs.Canonical.{name_of, opened, tree_words}
 use Rattle.program_text.specs.Form.{labels_below}
 use Rattle.program_text.proofs.LabelLemmas.{name_at}
 

@@ -1,7 +1,6 @@
 -- Programs of one site on a left-combed tree, with one measurement at the end.
-use Rattle.std.specs.Prelude.{ℕ, List, [], ◌∷◌, Bool, true, false, ◌&&◌, nat_lt, nat_le, length}
+use Rattle.std.specs.Prelude.{ℕ, List, [], ◌∷◌, Bool, false, ◌&&◌, nat_lt, nat_le, length}
 use Rattle.tree_shapes.specs.Labelled.{Labelled, Strand, Joined, size, is_left_comb, is_admissible}
-use Rattle.program_text.specs.declared.plan.Sign.{Sign}
 use Rattle.program_text.specs.declared.plan.Command.{Command}
 use Rattle.program_text.specs.declared.plan.Command.TheVariants.{Braid, Raise, Measure}
 use Rattle.program_text.specs.Program.{Program, ProgramSite}

@@ -1,5 +1,5 @@
 -- The program that a text is.
-use Rattle.std.specs.Prelude.{ℕ, ◌+◌, List, [], ◌∷◌, ◌++◌, Bool, true, false, ◌&&◌, ◌==◌, nat_lt, nat_le, length, position, take, drop, codes, if◌then◌else◌, Option, Some, None}
+use Rattle.std.specs.Prelude.{ℕ, List, [], ◌∷◌, ◌++◌, Bool, ◌&&◌, ◌==◌, nat_lt, nat_le, length, position, take, drop, codes, if◌then◌else◌, Option, Some, None}
 use Rattle.std.specs.Str.{bytes_eq}
 use Rattle.line_text.specs.Text.{Found, Counted, Faulty, reading_of, words_of, word_in, has_word}
 use Rattle.line_text.specs.Plain.{plain_number_of}
@@ -8,7 +8,7 @@ use Rattle.tree_shapes.specs.Labelled.{Labelled, Strand, Joined, size}
 use Rattle.program_text.specs.declared.plan.Sign.{Sign}
 use Rattle.program_text.specs.declared.plan.Sign.TheVariants.{Plus, Minus}
 use Rattle.program_text.specs.declared.plan.Command.{Command}
-use Rattle.program_text.specs.declared.plan.Command.TheVariants.{Braid, Raise, Measure}
+use Rattle.program_text.specs.declared.plan.Command.TheVariants.{Braid, Measure}
 use Rattle.program_text.specs.Program.{Program, ProgramSite}
 use Rattle.program_text.specs.Canonical.{canonical_program}
 use Rattle.program_text.specs.Form.{is_comb_program}

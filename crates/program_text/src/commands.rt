@@ -7,7 +7,10 @@ use line_text::{Line, Lines, plain_number};
 use std::alloc::{AllocError, Global};
 
 /// The braids and measurements of all lines that are left.
-pub(crate) fn read_commands(alloc: Global, lines: &mut Lines) -> Result<Option<Vec<Command>>, AllocError>
+pub(crate) fn read_commands(
+    alloc: Global,
+    lines: &mut Lines,
+) -> Result<Option<Vec<Command>>, AllocError>
     ensures { IfOk result (λ read. option_map (λ commands. commands.items) read ≡ commands_from [] lines.old.ahead) }
 {
     let mut commands = Vec::new(alloc);

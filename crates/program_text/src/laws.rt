@@ -6,5 +6,4 @@ pub fn comb_texts()
     ensures sound { CombSound }
     ensures complete { CombComplete }
     ensures one_text { CombOneText }
-{
-}
+{}

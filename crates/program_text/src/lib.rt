@@ -22,3 +22,6 @@ mod writing;
 pub use laws::comb_texts;
 pub use plan::{Command, Plan, Sign, Site};
 pub use reading::read_comb_program;
+
+#[cfg(test)]
+mod tests;

@@ -22,7 +22,12 @@ use std::alloc::{AllocError, Global};
 /// admissible left-combed start of 2 to 16 strands, and at most 4,096 commands: braids, and one measurement behind
 /// them. Only want of memory is an error.
 #[tactic(auto, unfolding(crate::specs::Reading::comb_program_of))]
-pub fn read_comb_program(alloc: Global, names: &Names, rules: &Rules, bytes: &[u8]) -> Result<Option<Plan>, AllocError>
+pub fn read_comb_program(
+    alloc: Global,
+    names: &Names,
+    rules: &Rules,
+    bytes: &[u8],
+) -> Result<Option<Plan>, AllocError>
     requires short { length bytes.now < 2 ^ 32 - 1 }
     requires counts { length names.now ≡ rules.now.count }
     ensures { IfOk result (λ read. option_map program_of read ≡ comb_program_of names.now rules.now.count (fuses rules.now) bytes.now) }

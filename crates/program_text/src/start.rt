@@ -10,7 +10,11 @@ use std::alloc::{AllocError, Global};
 use tree_shapes::{join, strand};
 
 /// The left-combed tree of 2 to 16 strands behind the first word of a line.
-pub(crate) fn read_start(alloc: Global, names: &Names, line: &Line) -> Result<Option<Comb>, AllocError>
+pub(crate) fn read_start(
+    alloc: Global,
+    names: &Names,
+    line: &Line,
+) -> Result<Option<Comb>, AllocError>
     ensures { IfOk result (λ read. option_map (λ comb. labelled comb.tree) read ≡ start_of names.now (words_of line.now.text.now)) }
 {
     if !has_strands(line) {

@@ -14,7 +14,13 @@ use tree_shapes::Tree;
 
 /// Whether these bytes are the canonical text of the program with the one site `main`.
 #[tactic(auto, using(crate::proofs::AcceptLemmas::text_is))]
-pub(crate) fn is_canonical(alloc: Global, names: &Names, start: &Tree, commands: &[Command], bytes: &[u8]) -> Result<bool, AllocError>
+pub(crate) fn is_canonical(
+    alloc: Global,
+    names: &Names,
+    start: &Tree,
+    commands: &[Command],
+    bytes: &[u8],
+) -> Result<bool, AllocError>
     requires { labels_below (length names.now) (labelled start.now) ≡ true }
     ensures { IfOk result (λ is. is ≡ bytes_eq (canonical_program names.now (main_program (labelled start.now) commands.now)) bytes.now) }
 {
@@ -23,7 +29,12 @@ pub(crate) fn is_canonical(alloc: Global, names: &Names, start: &Tree, commands:
 }
 
 /// The text of a program with the one site `main`.
-fn main_text(alloc: Global, names: &Names, start: &Tree, commands: &[Command]) -> Result<Vec<u8>, AllocError>
+fn main_text(
+    alloc: Global,
+    names: &Names,
+    start: &Tree,
+    commands: &[Command],
+) -> Result<Vec<u8>, AllocError>
     requires { labels_below (length names.now) (labelled start.now) ≡ true }
     ensures { IfOk result (λ text. text.items ≡ main_text names.now (labelled start.now) commands.now) }
 {
@@ -60,8 +71,14 @@ fn write_command(command: &Command, text: &mut Vec<u8>) -> Result<(), AllocError
     ensures { OnOk result (text.new.items ≡ text.old.items ++ command_text command.now) }
 {
     let (verb, gap, end) = match *command {
-        Command::Braid { gap, sign: Sign::Plus } => (b"braid ".as_slice(), gap, b" +\n".as_slice()),
-        Command::Braid { gap, sign: Sign::Minus } => (b"braid ".as_slice(), gap, b" -\n".as_slice()),
+        Command::Braid {
+            gap,
+            sign: Sign::Plus,
+        } => (b"braid ".as_slice(), gap, b" +\n".as_slice()),
+        Command::Braid {
+            gap,
+            sign: Sign::Minus,
+        } => (b"braid ".as_slice(), gap, b" -\n".as_slice()),
         Command::Raise { gap } => (b"raise ".as_slice(), gap, b"\n".as_slice()),
         Command::Measure { gap } => (b"measure ".as_slice(), gap, b"\n".as_slice()),
     };

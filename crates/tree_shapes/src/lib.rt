@@ -12,10 +12,9 @@ ghost use Rattle.tree_shapes.specs.Labelled.{Joined, Strand, is_strand, is_left_
 
 mod tree;
 
-pub use tree::{Fork, Tree};
-
 use sqlite_items::Boxed;
 use std::alloc::{AllocError, Global};
+pub use tree::{Fork, Tree};
 
 /// The tree of one strand with this label.
 pub fn strand(label: u8) -> Tree

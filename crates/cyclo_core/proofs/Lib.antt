@@ -1,0 +1,4 @@
+pub mod CancelLemmas
+pub mod GivenLemmas
+pub mod NumberLemmas
+pub mod SumLemmas

@@ -1,0 +1,13 @@
+use Rattle.std.proofs.Common.{◌≡◌, ℕ, ◌<◌, ◌≤◌, ◌^◌, ◌-◌, unsigned_abs, length}
+use Rattle.std.specs.Prelude.{pos}
+use Rattle.poly_core.specs.Table.{at}
+use Rattle.cyclo_core.specs.Content.{quotient}
+use Rattle.cyclo_core.proofs.cancel.quotients.Given as goal
+
+abbrev pub invariant-loop-j : goal.invariant-loop-j
+invariant-loop-j l = record {
+  value : (k : ℕ) → k < l.j → at l.out k ≡ quotient l.divisor (at l.numbers k);
+  rest : (k : ℕ) → l.j ≤ k → at l.out k ≡ pos 0;
+  len : length l.out ≡ 16;
+  small : (k : ℕ) → unsigned_abs (at l.out k) ≤ 2 ^ 127 - 1;
+}

@@ -1,0 +1,9 @@
+pub mod Content
+pub mod CycloLaws
+pub mod Fraction
+pub mod FractionRing
+pub mod Given
+pub mod Layers
+pub mod Ratio
+pub mod RingAt
+pub mod Sums

@@ -1,0 +1,63 @@
+-- From the two walks to the symbols of a draft.
+use Rattle.std.proofs.Common.{◌≡◌, ℕ, Bool, true, ◌&&◌, [], ◌∷◌, Option, Some, None, Ok, refl}
+use Rattle.std.specs.Prelude.{nat_lt}
+use Rattle.std.specs.Option.{option_or}
+use Rattle.std.proofs.lemmas.Bool.{and_parts, ltb-true}
+use Rattle.ring_laws.specs.Ring.{Ring}
+use Rattle.fusion_rules.specs.Fusion.{Fusion, fuses}
+use Rattle.symbol_table.specs.Symbols.{Given, f_admissible, h_of, s_of}
+use Rattle.symbol_table.specs.Index.{AreThreeLabels}
+use Rattle.symbol_table.specs.Derived.{DerivedValue, HoldsSymbols, h_put, s_put}
+use Rattle.derive_symbols.specs.Stop.{IsStop, h_stop, s_stop, derive_stop}
+use Rattle.derive_symbols.specs.Walk.{first_over, stop_at, Fills}
+use Rattle.derive_symbols.specs.declared.DeriveFault.{DeriveFault}
+use Rattle.derive_symbols.specs.declared.DeriveFault.TheVariants.{H, S, Memory}
+use Rattle.derive_symbols.specs.declared.walk.Symbol.TheVariants as kind
+
+-- labels that fuse are below the count
+pub labels_of : (g : Fusion) (a b c : ℕ) → fuses g a b c ≡ true → AreThreeLabels g.count a b c
+labels_of g a b c is =
+    let outer = and_parts (nat_lt a g.count && (nat_lt b g.count && nat_lt c g.count)) _ is in
+    let first = and_parts (nat_lt a g.count) (nat_lt b g.count && nat_lt c g.count) outer.0 in
+    let second = and_parts (nat_lt b g.count) (nat_lt c g.count) first.1 in
+    (ltb-true a g.count first.0, ltb-true b g.count second.0, ltb-true c g.count second.1)
+
+module _ {E : Type 0} (ring : Ring E) (g : Given E) where
+  first_stop : (h s : Option DeriveFault) (stop : DeriveFault) → h ≡ Some stop → option_or h s ≡ Some stop
+  first_stop h s stop e = rw e refl
+
+  second_stop : (h s : Option DeriveFault) (stop : DeriveFault) → h ≡ None → s ≡ Some stop → option_or h s ≡ Some stop
+  second_stop h s stop e f = rw e f
+
+  pub h_stops : (stop : DeriveFault) → IsStop stop (first_over g.count (stop_at ring g kind.H) 6 []) → IsStop stop (derive_stop ring g)
+  h_stops (H at) is = first_stop (h_stop ring g) (s_stop ring g) (H at) is
+  h_stops (S at) is = first_stop (h_stop ring g) (s_stop ring g) (S at) is
+  h_stops Memory is = tt
+
+  pub s_stops : (stop : DeriveFault) → first_over g.count (stop_at ring g kind.H) 6 [] ≡ None → IsStop stop (first_over g.count (stop_at ring g kind.S) 3 []) → IsStop stop (derive_stop ring g)
+  s_stops (H at) none is = second_stop (h_stop ring g) (s_stop ring g) (H at) none is
+  s_stops (S at) none is = second_stop (h_stop ring g) (s_stop ring g) (S at) none is
+  s_stops Memory none is = tt
+
+  four_vertices : (x y z u : Bool) → (x && (y && (z && u))) ≡ true → (x ≡ true) × (y ≡ true) × (z ≡ true) × (u ≡ true)
+  four_vertices x y z u e = let p = and_parts x _ e in let q = and_parts y _ p.1 in let r = and_parts z u q.1 in (p.0, q.0, r.0, r.1)
+
+  pub both_derive : {A : Type 0} (x y : A) (none h s : DerivedValue E) → ((a b c : ℕ) → g.fuse a b c ≡ true → AreThreeLabels g.count a b c)
+      → Fills ring g (Ok x) kind.H 6 [] none h → Fills ring g (Ok y) kind.S 3 [] h s → (derive_stop ring g ≡ None) × HoldsSymbols ring g s
+  both_derive x y none h s labels filled_h filled_s = (no_stop (h_stop ring g) (s_stop ring g) filled_h.0 filled_s.0, record { h = at_h; s = at_s })
+    where
+      no_stop : (p q : Option DeriveFault) → p ≡ None → q ≡ None → option_or p q ≡ None
+      no_stop p q e f = rw e f
+
+      at_h : (a b c d f e : ℕ) → f_admissible g.fuse a b c d e f ≡ true → h_put s a b c d f e ≡ Some (h_of ring g a b c d f e)
+      at_h a b c d f e is =
+          let parts = four_vertices (g.fuse a b e) (g.fuse e c d) (g.fuse b c f) (g.fuse a f d) is in
+          let abe = labels a b e parts.0 in
+          let ecd = labels e c d parts.1 in
+          let afd = labels a f d parts.3 in
+          filled_s.1 kind.H (a ∷ b ∷ c ∷ d ∷ f ∷ e ∷ []) (filled_h.2 a abe.0 b abe.1 c ecd.1 d ecd.2 f afd.1 e abe.2) is
+
+      at_s : (a b c : ℕ) → g.fuse a b c ≡ true → s_put s a b c ≡ Some (s_of ring g a b c)
+      at_s a b c is =
+          let abc = labels a b c is in
+          filled_s.2 a abc.0 b abc.1 c abc.2 is

@@ -1,0 +1,5 @@
+pub mod DeriveLemmas
+pub mod FillLemmas
+pub mod ValueLemmas
+pub mod WalkLemmas
+pub mod Worked
