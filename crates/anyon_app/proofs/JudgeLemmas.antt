@@ -3,7 +3,7 @@ use Rattle.std.proofs.Common.{◌≡◌, ℕ, List, Option, Some, None, Err, Ok,
 use Rattle.std.specs.Prelude.{option_and_then, option_map}
 use Rattle.std.specs.Option.{option_or}
 use Rattle.fusion_rules.specs.declared.rules.RulesFault.{RulesFault}
-use Rattle.anyon_app.specs.declared.stand_in.DeriveFault.{DeriveFault}
+use Rattle.derive_symbols.specs.declared.DeriveFault.{DeriveFault}
 use Rattle.anyon_app.specs.Replies.{Reply}
 use Rattle.anyon_app.specs.Refusals.{rules_line}
 use Rattle.anyon_app.specs.Comb.{count_line, derive_line, unless}

@@ -1,32 +1,29 @@
 -- The command `comb CAT PROG`: what it reads, in which order it refuses, and its report.
-use Rattle.std.specs.Prelude.{ℕ, ℤ, ◌==◌, List, if◌then◌else◌, Option, Some, None, option_and_then, option_map, Result, Ok, Err}
+use Rattle.std.specs.Prelude.{ℕ, ◌==◌, List, if◌then◌else◌, Option, Some, None, option_and_then, option_map, Result, Ok, Err}
 use Rattle.std.specs.Option.{option_or}
-use Rattle.ring_laws.specs.Whole.{whole_held, whole_ring}
-use Rattle.fusion_rules.specs.Fusion.{fuses}
+use Rattle.cyclo_core.specs.Ratio.{Ratio, held, ring_at}
 use Rattle.fusion_rules.specs.Check.{rules_fault}
 use Rattle.symbol_table.specs.Symbols.{Symbols, symbols_of}
-use Rattle.symbol_table.specs.Draft.{given}
-use Rattle.anyon_app.specs.Stop.{derive_stop}
-use Rattle.anyon_app.specs.declared.stand_in.DeriveFault.{DeriveFault}
-use Rattle.anyon_app.specs.declared.stand_in.DeriveFault.TheVariants.{H, S, Memory}
+use Rattle.derive_symbols.specs.Stop.{derive_stop}
+use Rattle.derive_symbols.specs.declared.DeriveFault.{DeriveFault}
+use Rattle.derive_symbols.specs.declared.DeriveFault.TheVariants.{H, S, Memory}
 use Rattle.program_text.specs.Program.{Program}
 use Rattle.program_text.specs.Reading.{comb_program_of}
 use Rattle.comb_laws.specs.Plans.{Outcomes}
 use Rattle.comb_laws.specs.Evaluated.{evaluation_of}
 use Rattle.anyon_app.specs.declared.texts.Kind.TheVariants.{Category, Program as ProgramText}
-use Rattle.anyon_app.specs.declared.stand_in.Named.{Named}
 use Rattle.anyon_app.specs.Replies.{Reply, done}
 use Rattle.anyon_app.specs.Refusals.{too_long, category_line, category_not_built, rules_line, h_overflow, s_overflow, program_not_built, turn_overflow}
 use Rattle.anyon_app.specs.Report.{report_of}
 use Rattle.anyon_app.specs.Work.{Work, Says, read_work, judged}
-use Rattle.anyon_app.specs.StandIn.{Fault, category_of, commands_of}
+use Rattle.anyon_app.specs.StandIn.{Fault, NamedSymbols, category_of, commands_of}
 
 -- the category of a text, or the reply at its first fault
-abbrev pub named_or : Result Named Fault → Result Named Reply
+abbrev pub named_or : Result NamedSymbols Fault → Result NamedSymbols Reply
 named_or (Ok named) = Ok named
 named_or (Err fault) = Err (category_line fault.line fault.cause)
 
-abbrev pub named_of : List ℕ → Result Named Reply
+abbrev pub named_of : List ℕ → Result NamedSymbols Reply
 named_of text = named_or (category_of text)
 
 -- an H-symbol or an S-symbol that can't be derived
@@ -40,14 +37,14 @@ abbrev pub count_line : ℕ → Option Reply
 count_line count = if count == 2 then None else Some category_not_built
 
 -- what decides about the labels of a category, if anything does: how many there are, or the first fault of its rules
-abbrev pub rules_verdict : Named → Option Reply
+abbrev pub rules_verdict : NamedSymbols → Option Reply
 rules_verdict named =
-    let rules = named.draft.rules in
-    option_or (count_line rules.count) (option_map (rules_line named.names) (rules_fault rules.count (fuses rules)))
+    let g = named.given in
+    option_or (count_line g.count) (option_map (rules_line named.names) (rules_fault g.count g.fuse))
 
 -- what decides about its symbols, if anything does: the first H-symbol, else the first S-symbol, that doesn't fit
-abbrev pub symbols_verdict : Named → Option Reply
-symbols_verdict named = option_and_then (derive_line named.names) (derive_stop whole_ring (given named.draft))
+abbrev pub symbols_verdict : NamedSymbols → Option Reply
+symbols_verdict named = option_and_then (derive_line named.names) (derive_stop (ring_at named.root) named.given)
 
 -- nothing decides, or this reply does
 abbrev pub unless : Option Reply → Result (Unit {0}) Reply
@@ -59,19 +56,19 @@ abbrev pub plan_or : Option Program → Result Program Reply
 plan_or (Some plan) = Ok plan
 plan_or None = Err program_not_built
 
-abbrev pub plan_of : Named → List ℕ → Result Program Reply
-plan_of named text = plan_or (comb_program_of named.names named.draft.rules.count (fuses named.draft.rules) text)
+abbrev pub plan_of : NamedSymbols → List ℕ → Result Program Reply
+plan_of named text = plan_or (comb_program_of named.names named.given.count named.given.fuse text)
 
 -- the symbols of a category
-abbrev pub symbols_in : Named → Symbols ℤ
-symbols_in named = symbols_of whole_ring whole_held (given named.draft)
+abbrev pub symbols_in : NamedSymbols → Symbols Ratio
+symbols_in named = symbols_of (ring_at named.root) held named.given
 
 -- the report of what was run, or the turn where it stopped
-abbrev pub report_or : List (List ℕ) → Result (Outcomes ℤ) ℕ → Result (List ℕ) Reply
+abbrev pub report_or : List (List ℕ) → Result (Outcomes Ratio) ℕ → Result (List ℕ) Reply
 report_or names (Ok outcomes) = Ok (report_of names outcomes)
 report_or names (Err turn) = Err (turn_overflow turn)
 
-abbrev pub rows_of : Named → Program → Result (List ℕ) Reply
+abbrev pub rows_of : NamedSymbols → Program → Result (List ℕ) Reply
 rows_of named plan = report_or named.names (evaluation_of (symbols_in named) plan.start (commands_of plan))
 
 -- The category of the first text; its labels; its derived symbols; the program of the second text; its rows.

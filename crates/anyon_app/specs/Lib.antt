@@ -5,7 +5,6 @@ pub mod Stages
 pub mod Causes
 pub mod Refusals
 pub mod StandIn
-pub mod Stop
 pub mod Report
 pub mod Comb
 pub mod Headline

@@ -1,6 +1,6 @@
 // The command `comb CAT PROG`.
 ghost use Rattle.std.specs.Prelude.{◌≡◌, ◌<◌, ◌-◌, ◌^◌, IfOk, OnOk, length, true};
-ghost use Rattle.ring_laws.specs.Whole.{whole_ring};
+ghost use Rattle.cyclo_core.specs.Ratio.{ring_at};
 ghost use Rattle.fusion_rules.specs.Fusion.{fuses};
 ghost use Rattle.symbol_table.specs.Draft.{given};
 ghost use Rattle.symbol_table.specs.Derived.{HoldsSymbols};
@@ -9,6 +9,7 @@ ghost use Rattle.program_text.specs.Form.{is_comb_program};
 ghost use Rattle.anyon_app.specs.Work.{read_work};
 ghost use Rattle.anyon_app.specs.Stages.{Gives, Passes, Worked};
 ghost use Rattle.anyon_app.specs.Refusals.{too_long};
+ghost use Rattle.anyon_app.specs.StandIn.{seen};
 ghost use Rattle.anyon_app.specs.Comb.{comb_work, named_of, plan_of, rows_of, rules_verdict, symbols_verdict, unless};
 
 use crate::refusals::{
@@ -16,12 +17,13 @@ use crate::refusals::{
     turn_overflow,
 };
 use crate::report::report;
-use crate::stand_in::{CategoryFault, DeriveFault, Named, RunFault, comb_draft, derive_draft, read_category};
+use crate::stand_in::{CategoryFault, Named, RunFault, comb_draft, read_category};
 use crate::stop::Stop;
 use crate::texts::{Kind, text};
+use cyclo_core::Cyclo;
+use derive_symbols::{DeriveFault, derive_draft};
 use io_ports::Shelf;
 use program_text::{Plan, read_comb_program};
-use ring_laws::Whole;
 use std::alloc::Global;
 use symbol_table::Derived;
 
@@ -44,7 +46,7 @@ pub fn comb<S: Shelf>(
 
 // The category of a text.
 fn category_text<S: Shelf>(alloc: Global, shelf: &mut S, name: &str) -> Result<Named, Stop>
-    ensures passes { Passes S.files S.faults shelf.old shelf.new (λ named. named) (read_work (too_long Kind.Category) named_of name.now) result }
+    ensures passes { Passes S.files S.faults shelf.old shelf.new seen (read_work (too_long Kind.Category) named_of name.now) result }
     ensures counts { IfOk result (λ named. length named.names ≡ named.draft.rules.count) }
 {
     let text = text(alloc, shelf, Kind::Category, name)?;
@@ -59,7 +61,7 @@ fn program_text<S: Shelf>(
     name: &str,
 ) -> Result<Plan, Stop>
     requires { length named.now.names ≡ named.now.draft.rules.count }
-    ensures passes { Passes S.files S.faults shelf.old shelf.new program_of (read_work (too_long Kind.Program) (plan_of named.now) name.now) result }
+    ensures passes { Passes S.files S.faults shelf.old shelf.new program_of (read_work (too_long Kind.Program) (plan_of (seen named.now)) name.now) result }
     ensures form { IfOk result (λ plan. is_comb_program (fuses named.now.draft.rules) named.now.draft.rules.count (program_of plan) ≡ true) }
 {
     let text = text(alloc, shelf, Kind::Program, name)?;
@@ -69,7 +71,7 @@ fn program_text<S: Shelf>(
 // The category of these bytes.
 fn category(alloc: Global, text: &[u8]) -> Result<Named, Stop>
     requires { length text.now < 2 ^ 32 - 1 }
-    ensures gives { Gives (λ named. named) result (named_of text.now) }
+    ensures gives { Gives seen result (named_of text.now) }
     ensures counts { IfOk result (λ named. length named.names ≡ named.draft.rules.count) }
 {
     match read_category(alloc, text) {
@@ -81,7 +83,7 @@ fn category(alloc: Global, text: &[u8]) -> Result<Named, Stop>
 
 // Judges the labels of a category.
 fn judge(alloc: Global, named: &Named) -> Result<(), Stop>
-    ensures gives { Gives (λ _. tt) result (unless (rules_verdict named.now)) }
+    ensures gives { Gives (λ _. tt) result (unless (rules_verdict (seen named.now))) }
     ensures two { OnOk result (named.now.draft.rules.count ≡ 2) }
 {
     let rules = named.draft.rules();
@@ -95,9 +97,9 @@ fn judge(alloc: Global, named: &Named) -> Result<(), Stop>
 }
 
 // The derived symbols of a category.
-fn derive(alloc: Global, named: &Named) -> Result<Derived<Whole>, Stop>
-    ensures gives { Gives (λ _. tt) result (unless (symbols_verdict named.now)) }
-    ensures holds { IfOk result (λ derived. HoldsSymbols whole_ring (given named.now.draft) derived) }
+fn derive(alloc: Global, named: &Named) -> Result<Derived<Cyclo>, Stop>
+    ensures gives { Gives (λ _. tt) result (unless (symbols_verdict (seen named.now))) }
+    ensures holds { IfOk result (λ derived. HoldsSymbols (ring_at named.now.draft.ring) (given named.now.draft) derived) }
 {
     match derive_draft(alloc, &named.draft) {
         Ok(derived) => Ok(derived),
@@ -111,7 +113,7 @@ fn derive(alloc: Global, named: &Named) -> Result<Derived<Whole>, Stop>
 fn program(alloc: Global, named: &Named, text: &[u8]) -> Result<Plan, Stop>
     requires short { length text.now < 2 ^ 32 - 1 }
     requires counts { length named.now.names ≡ named.now.draft.rules.count }
-    ensures gives { Gives program_of result (plan_of named.now text.now) }
+    ensures gives { Gives program_of result (plan_of (seen named.now) text.now) }
     ensures form { IfOk result (λ plan. is_comb_program (fuses named.now.draft.rules) named.now.draft.rules.count (program_of plan) ≡ true) }
 {
     match read_comb_program(alloc, &named.names, named.draft.rules(), text) {
@@ -122,11 +124,11 @@ fn program(alloc: Global, named: &Named, text: &[u8]) -> Result<Plan, Stop>
 }
 
 // The report of the rows.
-fn rows(alloc: Global, named: &Named, derived: &Derived<Whole>, plan: &Plan) -> Result<Vec<u8>, Stop>
+fn rows(alloc: Global, named: &Named, derived: &Derived<Cyclo>, plan: &Plan) -> Result<Vec<u8>, Stop>
     requires two { named.now.draft.rules.count ≡ 2 }
     requires form { is_comb_program (fuses named.now.draft.rules) named.now.draft.rules.count (program_of plan.now) ≡ true }
-    requires holds { HoldsSymbols whole_ring (given named.now.draft) derived.now }
-    ensures { Gives (λ report. report.items) result (rows_of named.now (program_of plan.now)) }
+    requires holds { HoldsSymbols (ring_at named.now.draft.ring) (given named.now.draft) derived.now }
+    ensures { Gives (λ report. report.items) result (rows_of (seen named.now) (program_of plan.now)) }
 {
     let rows = match comb_draft(alloc, &named.draft, derived, plan) {
         Ok(rows) => rows,

@@ -1,6 +1,6 @@
 // Stand-ins for the reader of categories, the engine and the number writer.
 ghost use Rattle.std.specs.Prelude.{◌≡◌, ◌<◌, ◌-◌, ◌^◌, ◌++◌, IfOk, IsTrue, length, OnOk, true};
-ghost use Rattle.ring_laws.specs.Whole.{whole_held, whole_ring};
+ghost use Rattle.cyclo_core.specs.Ratio.{held, ring_at};
 ghost use Rattle.fusion_rules.specs.Fusion.{fuses};
 ghost use Rattle.symbol_table.specs.Symbols.{symbols_of};
 ghost use Rattle.symbol_table.specs.Draft.{given};
@@ -8,15 +8,14 @@ ghost use Rattle.symbol_table.specs.Derived.{HoldsSymbols};
 ghost use Rattle.program_text.specs.Program.{program_of};
 ghost use Rattle.program_text.specs.Form.{is_comb_program};
 ghost use Rattle.comb_laws.specs.Evaluated.{evaluation_of};
-ghost use Rattle.anyon_app.specs.Stop.{Derives};
-ghost use Rattle.anyon_app.specs.StandIn.{category_of, commands_of, number_word, Evaluates, Told};
+ghost use Rattle.anyon_app.specs.StandIn.{category_of, commands_of, spelled_number, Evaluates, Told};
 
 use fusion_rules::Names;
 use line_text::LineCause;
 use program_text::Plan;
-use ring_laws::{Int, Whole};
+use cyclo_core::{Cyclo, Number};
 use std::alloc::{AllocError, Global};
-use symbol_table::{Derived, Draft, FIndex, VIndex};
+use symbol_table::{Derived, Draft};
 
 #[derive(Clone, Copy, Debug, PartialEq, Eq)]
 pub enum NumberWord {
@@ -53,7 +52,7 @@ pub enum CategoryFault {
 #[derive(Drop)]
 pub struct Named {
     pub names: Names,
-    pub draft: Draft<Whole>,
+    pub draft: Draft<Cyclo>,
 }
 
 pub fn read_category(alloc: Global, text: &[u8]) -> Result<Named, CategoryFault>
@@ -69,12 +68,12 @@ pub fn read_category(alloc: Global, text: &[u8]) -> Result<Named, CategoryFault>
 #[derive(Drop)]
 pub struct Row {
     pub word: Vec<u8>,
-    pub weight: Int,
+    pub weight: Number,
 }
 
 #[derive(Drop)]
 pub struct Rows {
-    pub total: Int,
+    pub total: Number,
     pub list: Vec<Row>,
 }
 
@@ -86,14 +85,14 @@ pub enum RunFault {
 
 pub fn comb_draft(
     alloc: Global,
-    draft: &Draft<Whole>,
-    derived: &Derived<Whole>,
+    draft: &Draft<Cyclo>,
+    derived: &Derived<Cyclo>,
     plan: &Plan,
 ) -> Result<Rows, RunFault>
     requires two { draft.now.rules.count ≡ 2 }
     requires form { is_comb_program (fuses draft.now.rules) draft.now.rules.count (program_of plan.now) ≡ true }
-    requires holds { HoldsSymbols whole_ring (given draft.now) derived.now }
-    ensures { Evaluates result (evaluation_of (symbols_of whole_ring whole_held (given draft.now)) (program_of plan.now).start (commands_of (program_of plan.now))) }
+    requires holds { HoldsSymbols (ring_at draft.now.ring) (given draft.now) derived.now }
+    ensures { Evaluates result (evaluation_of (symbols_of (ring_at draft.now.ring) held (given draft.now)) (program_of plan.now).start (commands_of (program_of plan.now))) }
 {
     let _ = alloc;
     let _ = draft;
@@ -102,28 +101,10 @@ pub fn comb_draft(
     Err(RunFault::Memory)
 }
 
-pub fn write_number(number: &Int, out: &mut Vec<u8>) -> Result<(), AllocError>
-    ensures { OnOk result (out.new.items ≡ out.old.items ++ number_word number.now) }
+pub fn write_number(number: &Number, out: &mut Vec<u8>) -> Result<(), AllocError>
+    ensures { OnOk result (out.new.items ≡ out.old.items ++ spelled_number number.now) }
 {
     let _ = number;
     out.push(b'x')?;
     Err(AllocError)
-}
-
-#[derive(Clone, Copy, Debug, PartialEq, Eq)]
-pub enum DeriveFault {
-    H(FIndex),
-    S(VIndex),
-    Memory,
-}
-
-pub fn derive_draft(
-    alloc: Global,
-    draft: &Draft<Whole>,
-) -> Result<Derived<Whole>, DeriveFault>
-    ensures { Derives whole_ring (given draft.now) result }
-{
-    let _ = alloc;
-    let _ = draft;
-    Err(DeriveFault::Memory)
 }
