@@ -1,22 +1,42 @@
-// Replies and faults over texts in memory.
+// Replies and faults over texts in memory. The expected lines are worked rows and those of an
+// independent program.
 use super::{Status, anyon};
 use io_ports::{MemShelf, MemSink, SureShelf};
 use std::alloc::{AllocError, Global};
+use std::process::Abort;
 use std::test::Fail;
 
-fn files(alloc: Global) -> Result<Vec<(String, Vec<u8>)>, AllocError> {
-    let mut files = Vec::new(alloc);
-    for (name, size) in [
-        ("0", 0),
-        ("4", 4),
-        ("5", 5),
-        ("6", 6),
-        ("502", 502),
-        ("998", 998),
-    ] {
-        files.push((String::from_str(alloc, name)?, vec![in alloc; b' '; size]?))?;
+// The Fibonacci category, in two parts.
+const FIB: &str = "category 1\nroot 5\nlabels 1 t\nfuse t t 1\nfuse t t t\n\
+    f t t t t 1 1 -1,0,-1,-1\nf t t t t 1 t -1,0,-1,-1\nf t t t t t t 1,0,1,1\n";
+const FIB_TAIL: &str = "r t t 1 0,0,0,1\nr t t t 1,1,1,1\nw t t 1 -1,0,-1,-1\nv t t 1 0,0,-1,-1\n";
+
+// Two labels of which the second is its own dual.
+const Z2: &str = "category 1\nroot 1\nlabels 1 g\nfuse g g 1\n";
+
+// Left-combed starts of four strands.
+const T4: &str = "program 1\nstart (((t t):1 t):t t):1\n";
+const G4: &str = "program 1\nstart (((g g):1 g):g g):1\n";
+
+const ROWS: &str = "total 2,0,1,1\noutcome 1 weight 5,0,3,3\noutcome t weight -3,0,-2,-2\n";
+
+// The texts of a category and a program, each in two parts.
+#[derive(Clone, Copy)]
+struct Texts<'a>(&'a str, &'a str, &'a str, &'a str);
+
+impl Texts<'_> {
+    fn files(&self, alloc: Global) -> Result<Vec<(String, Vec<u8>)>, AllocError> {
+        let mut files = Vec::new(alloc);
+        files.push((String::from_str(alloc, "CAT")?, joined(alloc, self.0, self.1)?))?;
+        files.push((String::from_str(alloc, "PROG")?, joined(alloc, self.2, self.3)?))?;
+        Ok(files)
     }
-    Ok(files)
+}
+
+fn joined(alloc: Global, first: &str, second: &str) -> Result<Vec<u8>, AllocError> {
+    let mut text = Vec::from_slice(alloc, first.as_bytes())?;
+    text.extend_from_slice(second.as_bytes())?;
+    Ok(text)
 }
 
 fn words(alloc: Global, line: &str) -> Result<Vec<String>, AllocError> {
@@ -25,42 +45,150 @@ fn words(alloc: Global, line: &str) -> Result<Vec<String>, AllocError> {
         .try_collect(alloc)
 }
 
+// Runs `comb CAT PROG` and compares what is answered and what is written.
+fn check(
+    rt: &impl Abort,
+    alloc: Global,
+    texts: Texts<'_>,
+    status: Status,
+    bytes: &str,
+) -> Result<(), AllocError> {
+    let mut shelf = SureShelf::new(texts.files(alloc)?, 4096);
+    let mut sink = MemSink::new(alloc, 200, Vec::new(alloc), 200)?;
+    let words = words(alloc, "comb CAT PROG")?;
+    let answer = anyon(alloc, words.as_slice(), &mut shelf, &mut sink);
+    assert_eq!(rt; sink.taken(), bytes.as_bytes());
+    assert_eq!(rt; answer, status, "{bytes}");
+    Ok(())
+}
+
 #[test]
-fn replies(rt: HostRuntime) -> Result<(), Fail> {
+fn rows(rt: HostRuntime) -> Result<(), Fail> {
     let alloc = rt.alloc();
-    for (line, status, bytes) in [
-        ("", Status::Usage, ""),
-        ("run a b", Status::Usage, ""),
-        ("comb 4", Status::Usage, ""),
-        ("comb 4 6 4", Status::Usage, ""),
+    for (start, commands, bytes) in [
+        (T4, "measure 2\n", ROWS),
+        (T4, "braid 2 +\nmeasure 1\n", ROWS),
+        (T4, "braid 2 -\nmeasure 1\n", ROWS),
         (
-            "comb 0 none",
-            Status::Refused,
-            "refused category line 1 header\n",
+            T4,
+            "braid 2 +\nbraid 2 -\nmeasure 1\n",
+            "total 2,0,1,1\noutcome 1 weight 2,0,1,1\n",
         ),
+        // Strands that differ in both orders.
         (
-            "comb 5 6",
-            Status::Refused,
-            "refused category line 2 short\n",
+            "program 1\nstart ((t 1):t t):1\n",
+            "braid 2 +\nmeasure 1\n",
+            "total -1,0,-1,-1\noutcome 1 weight -1,0,-1,-1\n",
         ),
-        ("comb 6 5", Status::Refused, "refused not built category\n"),
-        (
-            "comb 502 6",
-            Status::Limit,
-            "limit overflow derive-h      \n",
-        ),
-        ("comb 4 5", Status::Refused, "refused not built program\n"),
-        ("comb 4 998", Status::Limit, "limit overflow turn 1\n"),
-        ("comb 4 6", Status::Done, "total 10\n"),
-        ("comb none 6", Status::ReadFault, ""),
-        ("comb 4 none", Status::ReadFault, ""),
     ] {
-        let mut shelf = SureShelf::new(files(alloc)?, 3);
-        let mut sink = MemSink::new(alloc, 100, Vec::new(alloc), 2)?;
+        check(&rt, alloc, Texts(FIB, FIB_TAIL, start, commands), Status::Done, bytes)?;
+    }
+    let half = Texts(Z2, "f g g g g 1 1 1/2\n", G4, "measure 2\n");
+    check(&rt, alloc, half, Status::Done, "total 1\noutcome 1 weight 1/16\n")?;
+    Ok(())
+}
+
+#[test]
+fn refused_categories(rt: HostRuntime) -> Result<(), Fail> {
+    let alloc = rt.alloc();
+    for (first, second, bytes) in [
+        ("", "", "refused category line 1 header\n"),
+        (FIB, "r t t", "refused category line 9 short\n"),
+        (
+            FIB,
+            "r t t 1 0,0,0,1\nr t t 1 0,0,0,1\n",
+            "refused category line 10 repeated\n",
+        ),
+        (
+            FIB,
+            "r t t 1 1/0\n",
+            "refused category line 9 number zero denominator\n",
+        ),
+        (
+            "category 1\nroot 5\nlabels 1 t\n",
+            "fuse 1 t t\n",
+            "refused category line 4 unit fuse\n",
+        ),
+        (
+            "category 1\nroot 16\nlabels 1 s p\n",
+            "",
+            "refused not built category\n",
+        ),
+        ("category 1\nroot 1\nlabels 1 g\n", "", "refused dual g\n"),
+    ] {
+        // The category decides, so the program isn't read.
+        check(&rt, alloc, Texts(first, second, "", ""), Status::Refused, bytes)?;
+    }
+    Ok(())
+}
+
+#[test]
+fn refused_programs(rt: HostRuntime) -> Result<(), Fail> {
+    let alloc = rt.alloc();
+    for (start, commands) in [
+        ("program 1\nstart ((t t):1 (t t):1):1\n", "braid 2 +\nmeasure 1\n"),
+        (T4, ""),
+        (T4, "measure 2\nmeasure 1\n"),
+        (T4, "raise 2\nmeasure 1\n"),
+        (T4, "measure 4\n"),
+        (T4, "measure  2\n"),
+    ] {
+        let texts = Texts(FIB, FIB_TAIL, start, commands);
+        check(&rt, alloc, texts, Status::Refused, "refused not built program\n")?;
+    }
+    Ok(())
+}
+
+#[test]
+fn limits(rt: HostRuntime) -> Result<(), Fail> {
+    let alloc = rt.alloc();
+    for (symbols, commands, bytes) in [
+        (
+            "f g g g g 1 1 170141183460469231731687303715884105727\nw g g 1 2\n",
+            "measure 2\n",
+            "limit overflow derive-h g g g g 1 1\n",
+        ),
+        (
+            "r g g 1 170141183460469231731687303715884105727\nw g g 1 2\n",
+            "measure 2\n",
+            "limit overflow derive-s g g 1\n",
+        ),
+        (
+            "w g g 1 85070591730234615865843651857942052864\n\
+            v g g 1 1/85070591730234615865843651857942052864\n",
+            "measure 2\n",
+            "limit overflow turn 0\n",
+        ),
+        (
+            "f g g g g 1 1 9223372036854775808\nr g g 1 9223372036854775808\n",
+            "braid 2 +\nbraid 2 +\nmeasure 2\n",
+            "limit overflow turn 1\n",
+        ),
+    ] {
+        check(&rt, alloc, Texts(Z2, symbols, G4, commands), Status::Limit, bytes)?;
+    }
+    Ok(())
+}
+
+// Words of no listed form, and names that aren't there.
+#[test]
+fn words_and_names(rt: HostRuntime) -> Result<(), Fail> {
+    let alloc = rt.alloc();
+    let texts = Texts(FIB, FIB_TAIL, T4, "measure 2\n");
+    for (line, status) in [
+        ("", Status::Usage),
+        ("comb CAT", Status::Usage),
+        ("comb CAT PROG PROG", Status::Usage),
+        ("run CAT PROG", Status::Usage),
+        ("comb none PROG", Status::ReadFault),
+        ("comb CAT none", Status::ReadFault),
+    ] {
+        let mut shelf = SureShelf::new(texts.files(alloc)?, 4096);
+        let mut sink = MemSink::new(alloc, 200, Vec::new(alloc), 200)?;
         let words = words(alloc, line)?;
         let answer = anyon(alloc, words.as_slice(), &mut shelf, &mut sink);
         assert_eq!(rt; answer, status, "{line}");
-        assert_eq!(rt; sink.taken(), bytes.as_bytes(), "{line}");
+        assert_eq!(rt; sink.taken().len(), 0, "{line}");
     }
     Ok(())
 }
@@ -69,27 +197,59 @@ fn replies(rt: HostRuntime) -> Result<(), Fail> {
 #[test]
 fn faults(rt: HostRuntime) -> Result<(), Fail> {
     let alloc = rt.alloc();
-    let words = words(alloc, "comb 4 6")?;
-    // Two reads and the end of the first text, three reads and the end of the second.
-    for k in 0..8 {
-        let mut shelf = MemShelf::new(files(alloc)?, vec![in alloc; k]?, 2);
-        let mut sink = MemSink::new(alloc, 100, Vec::new(alloc), 100)?;
+    let words = words(alloc, "comb CAT PROG")?;
+    let texts = Texts(FIB, FIB_TAIL, T4, "measure 2\n");
+
+    let mut shelf = MemShelf::new(texts.files(alloc)?, Vec::new(alloc), 64);
+    let mut sink = MemSink::new(alloc, 200, Vec::new(alloc), 16)?;
+    assert_eq!(rt; anyon(alloc, words.as_slice(), &mut shelf, &mut sink), Status::Done);
+    assert_eq!(rt; sink.taken(), ROWS.as_bytes());
+
+    for k in 0..shelf.calls() {
+        let mut shelf = MemShelf::new(texts.files(alloc)?, vec![in alloc; k + 1]?, 64);
+        let mut sink = MemSink::new(alloc, 200, Vec::new(alloc), 16)?;
         let status = anyon(alloc, words.as_slice(), &mut shelf, &mut sink);
-        let (wanted, length) = if k == 0 {
-            (Status::Done, 9)
-        } else {
-            (Status::ReadFault, 0)
-        };
-        assert_eq!(rt; status, wanted, "at {k}");
-        assert_eq!(rt; sink.taken().len(), length, "at {k}");
+        assert_eq!(rt; status, Status::ReadFault, "read {k}");
+        assert_eq!(rt; sink.taken().len(), 0, "read {k}");
     }
-    // One byte a call.
-    for k in 1..10 {
-        let mut shelf = SureShelf::new(files(alloc)?, 2);
-        let mut sink = MemSink::new(alloc, 100, vec![in alloc; k]?, 1)?;
+    for k in 0..sink.calls() {
+        let mut shelf = SureShelf::new(texts.files(alloc)?, 64);
+        let mut sink = MemSink::new(alloc, 200, vec![in alloc; k + 1]?, 16)?;
         let status = anyon(alloc, words.as_slice(), &mut shelf, &mut sink);
-        assert_eq!(rt; status, Status::WriteFault, "at {k}");
-        assert_eq!(rt; sink.taken().len() as u64, k - 1, "at {k}");
+        assert_eq!(rt; status, Status::WriteFault, "write {k}");
+        assert_eq!(rt; sink.taken().len() as u64, 16 * k, "write {k}");
+    }
+    Ok(())
+}
+
+// A text of 4,194,304 bytes is read, and one more byte is too many.
+#[test]
+fn long_texts(rt: HostRuntime) -> Result<(), Fail> {
+    let alloc = rt.alloc();
+    let words = words(alloc, "comb CAT PROG")?;
+    for (place, size, status, bytes) in [
+        (0, 4_194_304, Status::Done, ROWS),
+        (0, 4_194_305, Status::Refused, "refused category too long\n"),
+        (1, 4_194_305, Status::Refused, "refused not built program\n"),
+    ] {
+        let mut files = Texts(FIB, FIB_TAIL, T4, "measure 2\n").files(alloc)?;
+        if let Some(file) = files.get_mut(place) {
+            add_comments(&mut file.1, size)?;
+        }
+        let mut shelf = SureShelf::new(files, 4096);
+        let mut sink = MemSink::new(alloc, 200, Vec::new(alloc), 200)?;
+        let answer = anyon(alloc, words.as_slice(), &mut shelf, &mut sink);
+        assert_eq!(rt; answer, status, "{place} {size}");
+        assert_eq!(rt; sink.taken(), bytes.as_bytes(), "{place} {size}");
+    }
+    Ok(())
+}
+
+// Comment lines of 64 bytes up to a size.
+fn add_comments(text: &mut Vec<u8>, size: usize) -> Result<(), AllocError> {
+    let more = size.saturating_sub(text.len());
+    for place in 0..more {
+        text.push(if place % 64 == 63 { b'\n' } else { b'#' })?;
     }
     Ok(())
 }
