@@ -2,10 +2,10 @@
 use Rattle.std.specs.Prelude.{ℕ, List, codes}
 use Rattle.line_text.specs.declared.fault.LineCause.{LineCause}
 use Rattle.line_text.specs.declared.fault.LineCause.TheVariants.{TooLong, NotAscii}
-use Rattle.anyon_app.specs.declared.stand_in.NumberWord.{NumberWord}
-use Rattle.anyon_app.specs.declared.stand_in.NumberWord.TheVariants.{Spelling, TooManyParts, TooBig, ZeroDenominator}
-use Rattle.anyon_app.specs.declared.stand_in.CategoryCause.{CategoryCause}
-use Rattle.anyon_app.specs.declared.stand_in.CategoryCause.TheVariants.{Line, Header, Root, Labels, Limit, Repeated, Misplaced, Word, Short, Long, UnknownLabel, UnitFuse, NotAdmissible, Number}
+use Rattle.cyclo_text.specs.declared.fault.NumberWord.{NumberWord}
+use Rattle.cyclo_text.specs.declared.fault.NumberWord.TheVariants.{Spelling, TooManyParts, TooBig, ZeroDenominator}
+use Rattle.category_text.specs.declared.fault.CategoryCause.{CategoryCause}
+use Rattle.category_text.specs.declared.fault.CategoryCause.TheVariants.{Line, Header, Root, Labels, Limit, Repeated, Misplaced, Word, Short, Long, UnknownLabel, UnitFuse, NotAdmissible, Number}
 
 abbrev pub line_cause : LineCause → List ℕ
 line_cause TooLong = codes "line too long"

@@ -7,6 +7,8 @@ use Rattle.symbol_table.specs.Symbols.{Symbols, symbols_of}
 use Rattle.derive_symbols.specs.Stop.{derive_stop}
 use Rattle.derive_symbols.specs.declared.DeriveFault.{DeriveFault}
 use Rattle.derive_symbols.specs.declared.DeriveFault.TheVariants.{H, S, Memory}
+use Rattle.category_text.specs.Named.{NamedSymbols}
+use Rattle.category_text.specs.Reading.{Fault, category_of}
 use Rattle.program_text.specs.Program.{Program}
 use Rattle.program_text.specs.Reading.{comb_program_of}
 use Rattle.comb_laws.specs.Plans.{Outcomes}
@@ -16,7 +18,7 @@ use Rattle.anyon_app.specs.Replies.{Reply, done}
 use Rattle.anyon_app.specs.Refusals.{too_long, category_line, category_not_built, rules_line, h_overflow, s_overflow, program_not_built, turn_overflow}
 use Rattle.anyon_app.specs.Report.{report_of}
 use Rattle.anyon_app.specs.Work.{Work, Says, read_work, judged}
-use Rattle.anyon_app.specs.StandIn.{Fault, NamedSymbols, category_of, commands_of}
+use Rattle.anyon_app.specs.StandIn.{commands_of}
 
 -- the category of a text, or the reply at its first fault
 abbrev pub named_or : Result NamedSymbols Fault → Result NamedSymbols Reply

@@ -6,7 +6,7 @@ use Rattle.symbol_table.specs.declared.index.FIndex.{FIndex}
 use Rattle.symbol_table.specs.declared.index.VIndex.{VIndex}
 use Rattle.anyon_app.specs.declared.texts.Kind.{Kind}
 use Rattle.anyon_app.specs.declared.texts.Kind.TheVariants.{Category, Program}
-use Rattle.anyon_app.specs.declared.stand_in.CategoryCause.{CategoryCause}
+use Rattle.category_text.specs.declared.fault.CategoryCause.{CategoryCause}
 use Rattle.anyon_app.specs.Replies.{Reply}
 use Rattle.anyon_app.specs.Lines.{refusal_of, limit_of}
 use Rattle.anyon_app.specs.Causes.{category_cause}

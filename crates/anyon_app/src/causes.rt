@@ -2,7 +2,8 @@
 ghost use Rattle.std.specs.Prelude.{◌≡◌};
 ghost use Rattle.anyon_app.specs.Causes.{category_cause, line_cause, number_cause};
 
-use crate::stand_in::{CategoryCause, NumberWord};
+use category_text::CategoryCause;
+use cyclo_text::NumberWord;
 use line_text::LineCause;
 
 /// The words of a cause that any text can have.

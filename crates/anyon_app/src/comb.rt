@@ -9,7 +9,7 @@ ghost use Rattle.program_text.specs.Form.{is_comb_program};
 ghost use Rattle.anyon_app.specs.Work.{read_work};
 ghost use Rattle.anyon_app.specs.Stages.{Gives, Passes, Worked};
 ghost use Rattle.anyon_app.specs.Refusals.{too_long};
-ghost use Rattle.anyon_app.specs.StandIn.{seen};
+ghost use Rattle.category_text.specs.Named.{seen};
 ghost use Rattle.anyon_app.specs.Comb.{comb_work, named_of, plan_of, rows_of, rules_verdict, symbols_verdict, unless};
 
 use crate::refusals::{
@@ -17,9 +17,10 @@ use crate::refusals::{
     turn_overflow,
 };
 use crate::report::report;
-use crate::stand_in::{CategoryFault, Named, RunFault, comb_draft, read_category};
+use crate::stand_in::{RunFault, comb_draft};
 use crate::stop::Stop;
 use crate::texts::{Kind, text};
+use category_text::{CategoryFault, Named, read_category};
 use cyclo_core::Cyclo;
 use derive_symbols::{DeriveFault, derive_draft};
 use io_ports::Shelf;
@@ -37,15 +38,15 @@ pub fn comb<S: Shelf>(
 ) -> Result<Vec<u8>, Stop>
     ensures { Worked S.files S.faults shelf.old shelf.new (comb_work category.now program.now) result }
 {
-    let named = category_text(alloc, shelf, category)?;
+    let named = load_category(alloc, shelf, category)?;
     judge(alloc, &named)?;
     let derived = derive(alloc, &named)?;
-    let plan = program_text(alloc, shelf, &named, program)?;
+    let plan = load_program(alloc, shelf, &named, program)?;
     rows(alloc, &named, &derived, &plan)
 }
 
 // The category of a text.
-fn category_text<S: Shelf>(alloc: Global, shelf: &mut S, name: &str) -> Result<Named, Stop>
+fn load_category<S: Shelf>(alloc: Global, shelf: &mut S, name: &str) -> Result<Named, Stop>
     ensures passes { Passes S.files S.faults shelf.old shelf.new seen (read_work (too_long Kind.Category) named_of name.now) result }
     ensures counts { IfOk result (λ named. length named.names ≡ named.draft.rules.count) }
 {
@@ -54,7 +55,7 @@ fn category_text<S: Shelf>(alloc: Global, shelf: &mut S, name: &str) -> Result<N
 }
 
 // The program of a text.
-fn program_text<S: Shelf>(
+fn load_program<S: Shelf>(
     alloc: Global,
     shelf: &mut S,
     named: &Named,
@@ -124,7 +125,12 @@ fn program(alloc: Global, named: &Named, text: &[u8]) -> Result<Plan, Stop>
 }
 
 // The report of the rows.
-fn rows(alloc: Global, named: &Named, derived: &Derived<Cyclo>, plan: &Plan) -> Result<Vec<u8>, Stop>
+fn rows(
+    alloc: Global,
+    named: &Named,
+    derived: &Derived<Cyclo>,
+    plan: &Plan,
+) -> Result<Vec<u8>, Stop>
     requires two { named.now.draft.rules.count ≡ 2 }
     requires form { is_comb_program (fuses named.now.draft.rules) named.now.draft.rules.count (program_of plan.now) ≡ true }
     requires holds { HoldsSymbols (ring_at named.now.draft.ring) (given named.now.draft) derived.now }

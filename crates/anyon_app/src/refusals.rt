@@ -4,9 +4,9 @@ ghost use Rattle.anyon_app.specs.Stages.{StopsWith};
 ghost use Rattle.anyon_app.specs.Refusals.{category_line, category_not_built, h_overflow, label_name, program_not_built, rules_line, s_overflow, too_long, turn_overflow};
 
 use crate::causes::category_words;
-use crate::stand_in::CategoryCause;
 use crate::stop::{Stop, limit, refusal};
 use crate::texts::Kind;
+use category_text::CategoryCause;
 use fusion_rules::{Names, RulesFault};
 use itoa::Buffer;
 use std::alloc::Global;

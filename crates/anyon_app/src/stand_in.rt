@@ -8,62 +8,12 @@ ghost use Rattle.symbol_table.specs.Derived.{HoldsSymbols};
 ghost use Rattle.program_text.specs.Program.{program_of};
 ghost use Rattle.program_text.specs.Form.{is_comb_program};
 ghost use Rattle.comb_laws.specs.Evaluated.{evaluation_of};
-ghost use Rattle.anyon_app.specs.StandIn.{category_of, commands_of, spelled_number, Evaluates, Told};
+ghost use Rattle.anyon_app.specs.StandIn.{commands_of, spelled_number, Evaluates};
 
-use fusion_rules::Names;
-use line_text::LineCause;
-use program_text::Plan;
 use cyclo_core::{Cyclo, Number};
+use program_text::Plan;
 use std::alloc::{AllocError, Global};
 use symbol_table::{Derived, Draft};
-
-#[derive(Clone, Copy, Debug, PartialEq, Eq)]
-pub enum NumberWord {
-    Spelling,
-    TooManyParts,
-    TooBig,
-    ZeroDenominator,
-}
-
-#[derive(Clone, Copy, Debug, PartialEq, Eq)]
-pub enum CategoryCause {
-    Line(LineCause),
-    Header,
-    Root,
-    Labels,
-    Limit,
-    Repeated,
-    Misplaced,
-    Word,
-    Short,
-    Long,
-    UnknownLabel,
-    UnitFuse,
-    NotAdmissible,
-    Number(NumberWord),
-}
-
-#[derive(Clone, Copy, Debug, PartialEq, Eq)]
-pub enum CategoryFault {
-    At { line: u32, cause: CategoryCause },
-    Memory,
-}
-
-#[derive(Drop)]
-pub struct Named {
-    pub names: Names,
-    pub draft: Draft<Cyclo>,
-}
-
-pub fn read_category(alloc: Global, text: &[u8]) -> Result<Named, CategoryFault>
-    requires { length text.now < 2 ^ 32 - 1 }
-    ensures told { Told result (category_of text.now) }
-    ensures counts { IfOk result (λ named. length named.names ≡ named.draft.rules.count) }
-{
-    let _ = alloc;
-    let _ = text;
-    Err(CategoryFault::Memory)
-}
 
 #[derive(Drop)]
 pub struct Row {

@@ -9,6 +9,7 @@ use std::test::Fail;
 // The Fibonacci category, in two parts.
 const FIB: &str = "category 1\nroot 5\nlabels 1 t\nfuse t t 1\nfuse t t t\n\
     f t t t t 1 1 -1,0,-1,-1\nf t t t t 1 t -1,0,-1,-1\nf t t t t t t 1,0,1,1\n";
+
 const FIB_TAIL: &str = "r t t 1 0,0,0,1\nr t t t 1,1,1,1\nw t t 1 -1,0,-1,-1\nv t t 1 0,0,-1,-1\n";
 
 // Two labels of which the second is its own dual.
@@ -16,6 +17,7 @@ const Z2: &str = "category 1\nroot 1\nlabels 1 g\nfuse g g 1\n";
 
 // Left-combed starts of four strands.
 const T4: &str = "program 1\nstart (((t t):1 t):t t):1\n";
+
 const G4: &str = "program 1\nstart (((g g):1 g):g g):1\n";
 
 const ROWS: &str = "total 2,0,1,1\noutcome 1 weight 5,0,3,3\noutcome t weight -3,0,-2,-2\n";
@@ -27,8 +29,14 @@ struct Texts<'a>(&'a str, &'a str, &'a str, &'a str);
 impl Texts<'_> {
     fn files(&self, alloc: Global) -> Result<Vec<(String, Vec<u8>)>, AllocError> {
         let mut files = Vec::new(alloc);
-        files.push((String::from_str(alloc, "CAT")?, joined(alloc, self.0, self.1)?))?;
-        files.push((String::from_str(alloc, "PROG")?, joined(alloc, self.2, self.3)?))?;
+        files.push((
+            String::from_str(alloc, "CAT")?,
+            joined(alloc, self.0, self.1)?,
+        ))?;
+        files.push((
+            String::from_str(alloc, "PROG")?,
+            joined(alloc, self.2, self.3)?,
+        ))?;
         Ok(files)
     }
 }
@@ -81,10 +89,22 @@ fn rows(rt: HostRuntime) -> Result<(), Fail> {
             "total -1,0,-1,-1\noutcome 1 weight -1,0,-1,-1\n",
         ),
     ] {
-        check(&rt, alloc, Texts(FIB, FIB_TAIL, start, commands), Status::Done, bytes)?;
+        check(
+            &rt,
+            alloc,
+            Texts(FIB, FIB_TAIL, start, commands),
+            Status::Done,
+            bytes,
+        )?;
     }
     let half = Texts(Z2, "f g g g g 1 1 1/2\n", G4, "measure 2\n");
-    check(&rt, alloc, half, Status::Done, "total 1\noutcome 1 weight 1/16\n")?;
+    check(
+        &rt,
+        alloc,
+        half,
+        Status::Done,
+        "total 1\noutcome 1 weight 1/16\n",
+    )?;
     Ok(())
 }
 
@@ -117,7 +137,13 @@ fn refused_categories(rt: HostRuntime) -> Result<(), Fail> {
         ("category 1\nroot 1\nlabels 1 g\n", "", "refused dual g\n"),
     ] {
         // The category decides, so the program isn't read.
-        check(&rt, alloc, Texts(first, second, "", ""), Status::Refused, bytes)?;
+        check(
+            &rt,
+            alloc,
+            Texts(first, second, "", ""),
+            Status::Refused,
+            bytes,
+        )?;
     }
     Ok(())
 }
@@ -126,7 +152,10 @@ fn refused_categories(rt: HostRuntime) -> Result<(), Fail> {
 fn refused_programs(rt: HostRuntime) -> Result<(), Fail> {
     let alloc = rt.alloc();
     for (start, commands) in [
-        ("program 1\nstart ((t t):1 (t t):1):1\n", "braid 2 +\nmeasure 1\n"),
+        (
+            "program 1\nstart ((t t):1 (t t):1):1\n",
+            "braid 2 +\nmeasure 1\n",
+        ),
         (T4, ""),
         (T4, "measure 2\nmeasure 1\n"),
         (T4, "raise 2\nmeasure 1\n"),
@@ -134,7 +163,13 @@ fn refused_programs(rt: HostRuntime) -> Result<(), Fail> {
         (T4, "measure  2\n"),
     ] {
         let texts = Texts(FIB, FIB_TAIL, start, commands);
-        check(&rt, alloc, texts, Status::Refused, "refused not built program\n")?;
+        check(
+            &rt,
+            alloc,
+            texts,
+            Status::Refused,
+            "refused not built program\n",
+        )?;
     }
     Ok(())
 }
@@ -165,7 +200,13 @@ fn limits(rt: HostRuntime) -> Result<(), Fail> {
             "limit overflow turn 1\n",
         ),
     ] {
-        check(&rt, alloc, Texts(Z2, symbols, G4, commands), Status::Limit, bytes)?;
+        check(
+            &rt,
+            alloc,
+            Texts(Z2, symbols, G4, commands),
+            Status::Limit,
+            bytes,
+        )?;
     }
     Ok(())
 }
@@ -202,7 +243,10 @@ fn faults(rt: HostRuntime) -> Result<(), Fail> {
 
     let mut shelf = MemShelf::new(texts.files(alloc)?, Vec::new(alloc), 64);
     let mut sink = MemSink::new(alloc, 200, Vec::new(alloc), 16)?;
-    assert_eq!(rt; anyon(alloc, words.as_slice(), &mut shelf, &mut sink), Status::Done);
+    assert_eq!(rt;
+        anyon(alloc, words.as_slice(), &mut shelf, &mut sink),
+        Status::Done
+    );
     assert_eq!(rt; sink.taken(), ROWS.as_bytes());
 
     for k in 0..shelf.calls() {

@@ -9,5 +9,5 @@ pub returns-in-Ok-Some-clause-form : goal.returns-in-Ok-Some-clause-form
 returns-in-Ok-Some-clause-form c =
     let rules = c.args.named.now.draft.rules in
     let read : Some (program_of c.in-Ok-Some.plan) ≡ comb_program_of c.args.named.now.names rules.count (fuses rules) c.args.text.now =
-        rw (c.in-Ok-Some.field-0-is, c.rules.ensures) at c.in-Ok-Some.ensures in
+    rw (c.in-Ok-Some.field-0-is, c.rules.ensures) at c.in-Ok-Some.ensures in
     (sound c.args.named.now.names rules.count (fuses rules) c.args.text.now (program_of c.in-Ok-Some.plan) (sym read)).0
