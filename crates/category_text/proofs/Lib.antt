@@ -1,0 +1,5 @@
+pub mod LabelLemmas
+pub mod RootLemmas
+pub mod SymbolLemmas
+pub mod Tried
+pub mod WholeLemmas

@@ -1,0 +1,122 @@
+ghost use Rattle.std.specs.Prelude.{◌≡◌, ◌<◌, [], List, drop, length, ◌==◌, ◌&&◌, Some, None, IfOk, if◌then◌else◌};
+ghost use Rattle.line_text.specs.Text.{words_of};
+ghost use Rattle.category_text.specs.Reading.{required, header_of, root_of, root_at, labels_of, head_of};
+ghost use Rattle.category_text.specs.Answers.{judged_of, kept_of, Says, Told};
+
+use crate::fault::{CategoryCause, CategoryFault, Stop, on_line, stop_on_line};
+use crate::words::has_two_words;
+use cyclo_core::Cyclo;
+use fusion_rules::{NameFault, Names};
+use line_text::{Line, Lines, plain_number};
+use std::alloc::Global;
+
+/// Reads the first three lines.
+#[tactic(auto, unfolding(crate::specs::Reading::head_of))]
+pub(crate) fn read_head(alloc: Global, lines: &mut Lines) -> Result<(Cyclo, Names), CategoryFault>
+    ensures head { Told (λ head. ((head.0, head.1), lines.new.ahead)) result (head_of lines.old) }
+    ensures some { IfOk result (λ head. 0 < length head.1) }
+{
+    let line = required(lines, CategoryCause::Header)?;
+    on_line(line.number, read_header(&line))?;
+    let line = required(lines, CategoryCause::Root)?;
+    let ring = on_line(line.number, read_root(&line))?;
+    let line = required(lines, CategoryCause::Labels)?;
+    let names = stop_on_line(line.number, read_labels(alloc, &line))?;
+    Ok((ring, names))
+}
+
+/// A line that has to come.
+fn required<'a>(lines: &mut Lines<'a>, missing: CategoryCause) -> Result<Line<'a>, CategoryFault>
+    ensures line { Told (λ line. (line.number, (words_of line.text.now, lines.new.ahead))) result (required missing lines.old.count lines.old.ahead) }
+    ensures count { lines.new.count ≡ lines.old.count }
+{
+    match lines.next_line()? {
+        Some(line) => Ok(line),
+        None => Err(CategoryFault::At {
+            line: lines.count() + 1,
+            cause: missing,
+        }),
+    }
+}
+
+fn read_header(line: &Line) -> Result<(), CategoryCause>
+    ensures { result ≡ header_of (words_of line.now.text.now) }
+{
+    if has_two_words(line) && line.has_word(0, b"category") && line.has_word(1, b"1") {
+        Ok(())
+    } else {
+        Err(CategoryCause::Header)
+    }
+}
+
+fn read_root(line: &Line) -> Result<Cyclo, CategoryCause>
+    ensures { result ≡ root_of (words_of line.now.text.now) }
+{
+    if !(has_two_words(line) && line.has_word(0, b"root")) {
+        return Err(CategoryCause::Root);
+    }
+    accepted(plain_number(line.word_or_empty(1)))
+}
+
+/// The ring of an accepted root.
+#[tactic(auto, using(crate::proofs::RootLemmas::large_root))]
+fn accepted(root: Option<u32>) -> Result<Cyclo, CategoryCause>
+    ensures { result ≡ root_at root }
+{
+    let Some(root) = root else {
+        return Err(CategoryCause::Root);
+    };
+    if root > 60 {
+        return Err(CategoryCause::Root);
+    }
+    match Cyclo::new(root as u8) {
+        Ok(ring) => Ok(ring),
+        Err(_) => Err(CategoryCause::Root),
+    }
+}
+
+fn read_labels(alloc: Global, line: &Line) -> Result<Names, Stop>
+    ensures labels { Says (λ names. names) result (labels_of (words_of line.now.text.now)) }
+    ensures some { IfOk result (λ names. 0 < length names) }
+{
+    if !line.has_word(0, b"labels") {
+        return Err(Stop::Cause(CategoryCause::Labels));
+    }
+    let mut names = Names::new(alloc);
+    let mut place = 1;
+    while let Some(word) = line.word(place) {
+        keep(&mut names, word)?;
+        place += 1;
+    }
+    judged(names, place - 1)
+}
+
+/// Adds a name. Names that are too many or stand twice are told for the whole line.
+fn keep(names: &mut Names, word: &[u8]) -> Result<(), Stop>
+    ensures { Says (λ _. names.new) result (kept_of names.old word.now) }
+{
+    match names.add(word) {
+        Ok(_) => Ok(()),
+        Err(NameFault::Full) => Ok(()),
+        Err(NameFault::Repeated) => Ok(()),
+        Err(NameFault::Spelling) => Err(Stop::Cause(CategoryCause::Labels)),
+        Err(NameFault::Memory) => Err(Stop::NoMemory),
+    }
+}
+
+/// The names of so many words.
+fn judged(names: Names, words: usize) -> Result<Names, Stop>
+    ensures judged { Says (λ names. names) result (judged_of names words) }
+    ensures some { IfOk result (λ names. 0 < length names) }
+{
+    if words == 0 {
+        return Err(Stop::Cause(CategoryCause::Labels));
+    }
+    if words > 12 {
+        return Err(Stop::Cause(CategoryCause::Limit));
+    }
+    if (names.count() as usize) < words {
+        return Err(Stop::Cause(CategoryCause::Repeated));
+    }
+    Ok(names)
+}

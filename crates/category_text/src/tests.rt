@@ -1,0 +1,30 @@
+use crate::{CategoryCause, CategoryFault, read_category};
+use std::test::Fail;
+
+#[test]
+fn reads_fibonacci(rt: HostRuntime) -> Result<(), Fail> {
+    let text = b"category 1
+root 5
+labels 1 t
+fuse t t 1
+fuse t t t
+f t t t t 1 1 -1,0,-1,-1
+r t t 1 0,0,0,1
+w t t 1 -1,0,-1,-1
+v t t 1 0,0,-1,-1
+";
+    let named = read_category(rt.alloc(), text)?;
+    assert_eq!(rt; named.names.count(), 2);
+    assert_eq!(rt; named.draft.ring().root(), 5);
+    Ok(())
+}
+
+#[test]
+fn refuses_the_first_line_at_fault(rt: HostRuntime) {
+    let text = b"category 1\nroot 5\nlabels 1 t\nfuse t t 1\nr t t 1 2/2\nr t t 1 01\n";
+    let fault = CategoryFault::At {
+        line: 6,
+        cause: CategoryCause::Repeated,
+    };
+    assert!(rt; read_category(rt.alloc(), text).err() == Some(fault));
+}
