@@ -3,7 +3,7 @@ use Rattle.std.specs.Prelude.{ℕ, List, [], ◌∷◌, ◌++◌, map, codes}
 use Rattle.line_text.specs.Spelling.{spelled}
 use Rattle.cyclo_core.specs.Ratio.{Ratio}
 use Rattle.comb_laws.specs.Plans.{Outcomes}
-use Rattle.anyon_app.specs.StandIn.{spelled_number}
+use Rattle.cyclo_text.specs.NumberWords.{spelled_number}
 use Rattle.anyon_app.specs.Refusals.{label_names}
 
 -- the words of a row's line: its outcomes, and its weight

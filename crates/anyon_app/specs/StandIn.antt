@@ -1,4 +1,4 @@
--- Stand-ins for what categories are read as, and for how numbers are written.
+-- A stand-in for the answers of the engine.
 use Rattle.std.specs.Prelude.{◌≡◌, ℕ, List, [], map, Result, Ok, Err}
 use Rattle.std.specs.List.{flat_map}
 use Rattle.program_text.specs.declared.plan.Command.{Command}
@@ -9,10 +9,6 @@ use Rattle.anyon_app.specs.declared.stand_in.RunFault.{RunFault}
 use Rattle.anyon_app.specs.declared.stand_in.RunFault.TheVariants.{Overflow, Memory as NoRoom}
 use Rattle.anyon_app.specs.declared.stand_in.Row.{Row}
 use Rattle.anyon_app.specs.declared.stand_in.Rows.{Rows}
-
--- how a number is written
-unfoldable pub spelled_number : Ratio → List ℕ
-spelled_number number = []
 
 -- the commands of all sites
 abbrev pub commands_of : Program → List Command

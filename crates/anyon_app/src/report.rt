@@ -6,7 +6,8 @@ ghost use Rattle.anyon_app.specs.Report.{report_of, row_words};
 ghost use Rattle.anyon_app.specs.StandIn.{outcomes, row_of};
 
 use crate::refusals::label_name;
-use crate::stand_in::{Row, Rows, write_number};
+use crate::stand_in::{Row, Rows};
+use cyclo_text::write_number;
 use fusion_rules::Names;
 use std::alloc::{AllocError, Global};
 
@@ -16,23 +17,28 @@ pub fn report(alloc: Global, names: &Names, rows: &Rows) -> Result<Vec<u8>, Allo
     ensures { IfOk result (λ report. report.items ≡ report_of names.now (outcomes rows.now)) }
 {
     let mut out = Vec::from_slice(alloc, b"total ")?;
-    write_number(&rows.total, &mut out)?;
+    write_number(alloc, &rows.total, &mut out)?;
     out.push(b'\n')?;
     for row in &rows.list {
-        write_row(names, row, &mut out)?;
+        write_row(alloc, names, row, &mut out)?;
     }
     Ok(out)
 }
 
 // Appends the line of a row.
 #[tactic(auto, using(crate::proofs::LineLemmas::row_is))]
-fn write_row(names: &Names, row: &Row, out: &mut Vec<u8>) -> Result<(), AllocError>
+fn write_row(
+    alloc: Global,
+    names: &Names,
+    row: &Row,
+    out: &mut Vec<u8>,
+) -> Result<(), AllocError>
     ensures { OnOk result (out.new.items ≡ out.old.items ++ line_of (row_words names.now (row_of row.now))) }
 {
     out.extend_from_slice(b"outcome")?;
     write_labels(names, &row.word, out)?;
     out.extend_from_slice(b" weight ")?;
-    write_number(&row.weight, out)?;
+    write_number(alloc, &row.weight, out)?;
     out.push(b'\n')?;
     Ok(())
 }

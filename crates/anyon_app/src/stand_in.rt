@@ -1,4 +1,4 @@
-// Stand-ins for the reader of categories, the engine and the number writer.
+// A stand-in for the engine.
 ghost use Rattle.std.specs.Prelude.{◌≡◌, ◌<◌, ◌-◌, ◌^◌, ◌++◌, IfOk, IsTrue, length, OnOk, true};
 ghost use Rattle.cyclo_core.specs.Ratio.{held, ring_at};
 ghost use Rattle.fusion_rules.specs.Fusion.{fuses};
@@ -8,11 +8,11 @@ ghost use Rattle.symbol_table.specs.Derived.{HoldsSymbols};
 ghost use Rattle.program_text.specs.Program.{program_of};
 ghost use Rattle.program_text.specs.Form.{is_comb_program};
 ghost use Rattle.comb_laws.specs.Evaluated.{evaluation_of};
-ghost use Rattle.anyon_app.specs.StandIn.{commands_of, spelled_number, Evaluates};
+ghost use Rattle.anyon_app.specs.StandIn.{commands_of, Evaluates};
 
 use cyclo_core::{Cyclo, Number};
 use program_text::Plan;
-use std::alloc::{AllocError, Global};
+use std::alloc::Global;
 use symbol_table::{Derived, Draft};
 
 #[derive(Drop)]
@@ -49,12 +49,4 @@ pub fn comb_draft(
     let _ = derived;
     let _ = plan;
     Err(RunFault::Memory)
-}
-
-pub fn write_number(number: &Number, out: &mut Vec<u8>) -> Result<(), AllocError>
-    ensures { OnOk result (out.new.items ≡ out.old.items ++ spelled_number number.now) }
-{
-    let _ = number;
-    out.push(b'x')?;
-    Err(AllocError)
 }

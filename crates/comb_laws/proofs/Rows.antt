@@ -1,0 +1,63 @@
+-- Worked values, by computing the definitions.
+use Rattle.std.specs.Prelude.{◌≡◌, [], ◌∷◌, pos, negsuc, Ok, refl}
+use Rattle.comb_laws.specs.Paths.{paths}
+use Rattle.comb_laws.specs.Amplitudes.{stands_for, own_vector, own_path}
+use Rattle.symbol_table.specs.Symbols.{s_of, h_of}
+use Rattle.tree_shapes.specs.Labelled.{leaves}
+use Rattle.comb_laws.specs.Plans.{rows_from, outcomes_of}
+use Rattle.comb_laws.specs.Evaluated.{evaluation_of}
+use Rattle.program_text.specs.declared.plan.Command.TheVariants.{Braid, Measure}
+use Rattle.program_text.specs.declared.plan.Sign.TheVariants.{Plus, Minus}
+use Rattle.comb_laws.proofs.Fib.{num, fib, lx, short, x, mixed, numbered, whole, ring5}
+
+pub three_strands : paths fib (1 ∷ 1 ∷ 1 ∷ []) ≡ (0 ∷ 1 ∷ 0 ∷ 1 ∷ []) ∷ (0 ∷ 1 ∷ 1 ∷ 0 ∷ []) ∷ (0 ∷ 1 ∷ 1 ∷ 1 ∷ []) ∷ []
+three_strands = refl
+
+-- four t strands in the left-combed start with the labels 1, t, 1: the pairs' charges in the middle
+pub middle_pair : outcomes_of fib lx (Measure 2 ∷ [])
+    ≡ record {
+      total = num (pos 2) (pos 0) (pos 1) (pos 1);
+      rows = (0 ∷ [], num (pos 5) (pos 0) (pos 3) (pos 3)) ∷ (1 ∷ [], num (negsuc 2) (pos 0) (negsuc 1) (negsuc 1)) ∷ [];
+    }
+middle_pair = refl
+
+pub braided_pair : outcomes_of fib lx (Braid 2 Plus ∷ Measure 1 ∷ [])
+    ≡ record {
+      total = num (pos 2) (pos 0) (pos 1) (pos 1);
+      rows = (0 ∷ [], num (pos 5) (pos 0) (pos 3) (pos 3)) ∷ (1 ∷ [], num (negsuc 2) (pos 0) (negsuc 1) (negsuc 1)) ∷ [];
+    }
+braided_pair = refl
+
+-- the stated evaluation has the same total and rows, where all items fit
+pub evaluated_pair : evaluation_of fib short (Measure 2 ∷ [])
+    ≡ Ok (record {
+      total = num (negsuc 0) (pos 0) (negsuc 0) (negsuc 0);
+      rows = (0 ∷ [], num (negsuc 2) (pos 0) (negsuc 1) (negsuc 1)) ∷ (1 ∷ [], num (pos 2) (pos 0) (pos 1) (pos 1)) ∷ [];
+    })
+evaluated_pair = refl
+
+-- a braid and its inverse
+pub braided_back : rows_from fib (1 ∷ 1 ∷ 1 ∷ 1 ∷ []) (stands_for fib (1 ∷ 1 ∷ 1 ∷ 1 ∷ []) (λ t. t) ((x, ring5.one) ∷ [])) (Braid 2 Plus ∷ Braid 2 Minus ∷ Measure 1 ∷ [])
+    ≡ (0 ∷ [], num (pos 2) (pos 0) (pos 1) (pos 1)) ∷ []
+braided_back = refl
+
+-- the balanced tree, by path amplitudes
+pub balanced_middle : rows_from fib (leaves x) (stands_for fib (leaves x) (λ t. t) ((x, ring5.one) ∷ [])) (Measure 2 ∷ [])
+    ≡ (0 ∷ [], num (pos 5) (pos 0) (pos 3) (pos 3)) ∷ (1 ∷ [], num (negsuc 2) (pos 0) (negsuc 1) (negsuc 1)) ∷ []
+balanced_middle = refl
+
+-- a left-combed tree stands for its own vector
+pub own_path_is_one : stands_for fib (leaves lx) (λ t. t) ((lx, ring5.one) ∷ []) (own_path lx) ≡ ring5.one
+own_path_is_one = refl
+
+-- strands that differ: after the braid they stand as t t 1, and the first two have the charge 1
+pub mixed_strands : rows_from fib (leaves mixed) (own_vector ring5 mixed) (Braid 2 Plus ∷ Measure 1 ∷ []) ≡ (0 ∷ [], num (negsuc 0) (pos 0) (negsuc 0) (negsuc 0)) ∷ []
+mixed_strands = refl
+
+-- S(1,2,0) is conj(R(2,1,0)) w(1,2,0) v(2,1,0)
+pub s_by_hand : s_of ring5 numbered 1 2 0 ≡ whole 5423
+s_by_hand = refl
+
+-- H(1,2,0,1;2,0) is conj(F(1,2,0,1;0,2)) w(2,0,2) w(1,2,1) v(1,2,0) v(0,0,1)
+pub h_by_hand : h_of ring5 numbered 1 2 0 1 2 0 ≡ whole 46
+h_by_hand = refl
