@@ -5,6 +5,9 @@ pub mod EntryLemmas
 pub mod Gather
 pub mod LiveLemmas
 pub mod OrderLemmas
+pub mod OutcomeLemmas
 pub mod PathLemmas
+pub mod RunLemmas
+pub mod StartLemmas
 pub mod Values
 pub mod WeightLemmas

@@ -1,6 +1,6 @@
 -- Live words and their rows.
 use Rattle.std.proofs.Common.{◌≡◌, ℕ, zero, suc, ◌+◌, ◌-◌, ◌<◌, Bool, true, false, not, List, [], ◌∷◌, ◌++◌, map, length, get_or, drop, Option, Some, None, refl, ap, sym, ◌∙◌, subst, append_assoc, arith, inl, inr}
-use Rattle.std.specs.Prelude.{if◌then◌else◌, ◌&&◌, IsTrue}
+use Rattle.std.specs.Prelude.{if◌then◌else◌, ◌&&◌, IsTrue, Result, Err}
 use Rattle.std.specs.Str.{bytes_eq}
 use Rattle.std.specs.List.{list_all, filter}
 use Rattle.std.proofs.lemmas.List.{map-append, append-nil, at_drop_more, at_drop_all}
@@ -109,3 +109,7 @@ not_true b off on = cc
 pub rows_pushed : {R E : Type 0} (old new : List (Row R E)) (row : Row R E) (word : List ℕ) → new ≡ old ++ row ∷ [] → row.word.items ≡ word → rows_of new ≡ rows_of old ++ (word, row.weight) ∷ []
 rows_pushed {R} {E} old new row word made is =
     ap rows_of made ∙ (map-append (λ (r : Row R E). (r.word.items, r.weight)) old (row ∷ []) ∙ (λ j. rows_of old ++ (is j, row.weight) ∷ []))
+
+-- one answer has one error
+pub err_same : {T E : Type 0} (r : Result T E) (f g : E) → r ≡ Err f → r ≡ Err g → f ≡ g
+err_same r f g a b = cc

@@ -1,4 +1,5 @@
 pub mod Amplitudes
+pub mod Comb
 pub mod Entries
 pub mod Evaluated
 pub mod Lives

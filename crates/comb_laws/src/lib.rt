@@ -12,6 +12,7 @@
 #![tactic(auto)]
 
 mod act;
+mod comb;
 mod fault;
 mod kernel;
 mod live;

@@ -1,12 +1,13 @@
 //! A run over left-combed paths, in the order of the text.
 
-ghost use Rattle.std.specs.Prelude.{◌≡◌, ◌<◌, ◌≤◌, ◌+◌, ◌-◌, ◌^◌, [], List, All, length, slice_set, IfOk, OnOk, OnErr, IsErrOf, true, false};
+ghost use Rattle.std.specs.Prelude.{◌≡◌, ◌<◌, ◌≤◌, ◌+◌, ◌-◌, ◌^◌, [], ◌∷◌, List, All, length, slice_set, IfOk, OnOk, OnErr, IsErrOf, true, false};
 ghost use Rattle.symbol_table.specs.Symbols.{symbols_of};
 ghost use Rattle.comb_laws.specs.Operators.{braided, swapped};
 ghost use Rattle.comb_laws.specs.Entries.{vector_of, AreEntries};
 ghost use Rattle.comb_laws.specs.Evaluated.{braided_fits, rest_of, one_word};
 ghost use Rattle.comb_laws.specs.Operations.{IsGap};
 ghost use Rattle.comb_laws.specs.Lives.{Runs, rows_of};
+ghost use Rattle.program_text.specs.Form.{is_measured_braid};
 ghost use Rattle.program_text.specs.declared.plan.Command.TheVariants.{Measure};
 
 use crate::act::act;
@@ -73,4 +74,78 @@ fn braid<R: StarRing, S: SymbolSource<R>>(
     *vector = new;
     *strands = after;
     Ok(())
+}
+
+/// What a step that stops in a turn says of the run.
+fn stopped(fault: StepFault, turn: u32) -> RunFault
+    ensures too_large { fault ≡ StepFault.TooLarge → result ≡ RunFault.Overflow turn }
+    ensures no_room { fault ≡ StepFault.NoRoom → result ≡ RunFault.Memory }
+{
+    match fault {
+        StepFault::TooLarge => RunFault::Overflow { turn },
+        StepFault::NoRoom => RunFault::Memory,
+    }
+}
+
+/// The last measurement, at gap k, and the rows of its outcomes.
+fn measure<R: StarRing, S: SymbolSource<R>>(
+    alloc: Global,
+    source: &S,
+    strands: &[u8],
+    k: u8,
+    turn: u32,
+    vector: &CombVector<R>,
+) -> Result<Vec<Row<R>>, RunFault>
+    requires gap { IsGap (S.given source.now).count strands.now k }
+    requires turn { turn < 2 ^ 16 }
+    requires entries { AreEntries (symbols_of (R.ring (S.base source.now)) R.held (S.given source.now)) strands.now vector.now }
+    ensures { let c = symbols_of (R.ring (S.base source.now)) R.held (S.given source.now) in
+        Runs (λ rows. rows_of rows.items) result (rest_of c turn (Measure k ∷ []) strands.now (one_word (vector_of c.ring vector.now))) }
+{
+    let words = match outcomes(alloc, source, strands, usize::from(k), vector) {
+        Ok(words) => words,
+        Err(fault) => return Err(stopped(fault, turn)),
+    };
+    match rows_of_words(alloc, source, strands, words.as_slice()) {
+        Ok(rows) => Ok(rows),
+        Err(fault) => Err(stopped(fault, turn + 1)),
+    }
+}
+
+/// Braids, and one measurement behind them: the rows of its outcomes.
+pub(crate) fn run<R: StarRing, S: SymbolSource<R>>(
+    alloc: Global,
+    source: &S,
+    commands: &[Command],
+    strands: Strands,
+    vector: CombVector<R>,
+) -> Result<Vec<Row<R>>, RunFault>
+    requires form { is_measured_braid (length strands.items) commands.now ≡ true }
+    requires few { length commands.now ≤ 4096 }
+    requires some { 0 < (S.given source.now).count }
+    requires short { length strands.items ≤ 16 }
+    requires labels { All (λ s. s < (S.given source.now).count) strands.items }
+    requires entries { AreEntries (symbols_of (R.ring (S.base source.now)) R.held (S.given source.now)) strands.items vector }
+    ensures { let c = symbols_of (R.ring (S.base source.now)) R.held (S.given source.now) in
+        Runs (λ rows. rows_of rows.items) result (rest_of c 1 commands.now strands.items (one_word (vector_of c.ring vector))) }
+{
+    let mut strands = strands;
+    let mut vector = vector;
+    let mut turn = 1;
+    for command in commands {
+        match *command {
+            Command::Braid { gap, sign } => {
+                let gap = usize::from(gap);
+                if let Err(fault) = braid(alloc, source, &mut strands, gap, sign, &mut vector) {
+                    return Err(stopped(fault, turn));
+                }
+            }
+            Command::Measure { gap } => {
+                return measure(alloc, source, strands.as_slice(), gap, turn, &vector);
+            }
+            Command::Raise { .. } => unreachable!(),
+        }
+        turn += 1;
+    }
+    unreachable!()
 }

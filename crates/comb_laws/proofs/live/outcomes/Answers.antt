@@ -1,10 +1,11 @@
-use Rattle.std.proofs.Common.{◌≡◌, ◌<◌, arith}
+use Rattle.std.proofs.Common.{◌≡◌, ◌<◌, ◌∙◌, ap, Err, arith}
 use Rattle.std.proofs.lemmas.Result.{err_from_is_err_and}
 use Rattle.symbol_table.specs.Symbols.{symbols_of}
 use Rattle.comb_laws.specs.Entries.{vector_of}
 use Rattle.comb_laws.specs.Evaluated.{projected_fits}
+use Rattle.comb_laws.specs.declared.fault.StepFault.TheVariants.{TooLarge}
 use Rattle.comb_laws.specs.Lives.{lives_of}
-use Rattle.comb_laws.proofs.LiveLemmas.{outcomes_more, labels_pass, labels_fail}
+use Rattle.comb_laws.proofs.LiveLemmas.{outcomes_more, labels_pass, labels_fail, err_same}
 use Rattle.comb_laws.proofs.live.outcomes.Goals as goal
 
 pub returns-in_err-push_outcome-clause-too_large : goal.returns-in_err-push_outcome-clause-too_large
@@ -13,7 +14,7 @@ returns-in_err-push_outcome-clause-too_large g c e =
     let p = err_from_is_err_and c.from_residual.result c.from_residual.ensures.1 in
     let low : c.loop-q.q < (g.S.SymbolSource.given c.args.source.now).count = omega arith in
     labels_fail (λ q. projected_fits s c.args.strands.now c.args.k q (vector_of s.ring c.args.vector.now)) s.count c.loop-q.q low
-    (c.in_err-push_outcome.ensures.too_large (rw (p.1, p.2) at e))
+    (c.in_err-push_outcome.ensures.too_large (ap Err (err_same c.from_residual.result c.in_err-push_outcome.field-0.0 TooLarge (p.1 ∙ ap Err p.2) e)))
 
 pub loop-q-preserved : goal.loop-q-preserved
 loop-q-preserved g c =

@@ -1,0 +1,88 @@
+-- One turn of a run.
+use Rattle.std.proofs.Common.{◌≡◌, ℕ, suc, ◌+◌, ◌<◌, ◌≤◌, Bool, true, false, List, [], ◌∷◌, ◌++◌, map, length, get_or, drop, Option, Some, None, refl, ap, sym, ◌∙◌, arith}
+use Rattle.std.specs.Prelude.{if◌then◌else◌, ◌&&◌, Result, Ok, Err, nat_lt}
+use Rattle.std.specs.List.{list_all}
+use Rattle.std.proofs.lemmas.List.{append-nil, at_drop_more}
+use Rattle.std.proofs.lemmas.Bool.Decides.{nat_tests}
+use Rattle.symbol_table.specs.Symbols.{Symbols}
+use Rattle.program_text.specs.declared.plan.Sign.{Sign}
+use Rattle.program_text.specs.declared.plan.Command.{Command}
+use Rattle.program_text.specs.declared.plan.Command.TheVariants.{Braid, Raise, Measure}
+use Rattle.program_text.specs.Form.{is_gap, is_measured_braid}
+use Rattle.comb_laws.specs.Paths.{Vector, labels}
+use Rattle.comb_laws.specs.Operators.{swapped, braided}
+use Rattle.comb_laws.specs.Evaluated.{Live, braided_fits, projected_fits, outcomes_at, rows_at, run_from, at_turn, ◌>>>◌, rest_of, one_word}
+use Rattle.comb_laws.proofs.Gather.{and_true}
+
+and_one : (b d : Bool) → b ≡ d → (b && true) ≡ d
+and_one true d e = e
+and_one false d e = e
+
+module _ {E : Type 0} (c : Symbols E) (strands : List ℕ) (k turn : ℕ) (v : Vector E) where
+  abbrev pub all_fit : Bool
+  all_fit = list_all (λ q. projected_fits c strands k q v) (labels c.count)
+
+  -- a measurement behind which nothing comes
+  pub measured : (live : List (Live E)) → all_fit ≡ true → live ≡ outcomes_at c strands k (record { word = []; vector = v })
+      → rest_of c turn (Measure k ∷ []) strands (one_word v) ≡ at_turn (turn + 1) (rows_at c strands live)
+  measured live fits is =
+      rw (and_one all_fit true fits)
+      (ap (λ ls. at_turn (turn + 1) (rows_at c strands ls)) (append-nil (outcomes_at c strands k (record { word = []; vector = v })) ∙ sym is))
+
+  pub measured_ok : (live : List (Live E)) (rows : List (List ℕ × E)) → all_fit ≡ true → live ≡ outcomes_at c strands k (record { word = []; vector = v })
+      → rows_at c strands live ≡ Some rows → rest_of c turn (Measure k ∷ []) strands (one_word v) ≡ Ok rows
+  measured_ok live rows fits is weigh = measured live fits is ∙ ap (at_turn (turn + 1)) weigh
+
+  pub measured_late : (live : List (Live E)) → all_fit ≡ true → live ≡ outcomes_at c strands k (record { word = []; vector = v })
+      → rows_at c strands live ≡ None → rest_of c turn (Measure k ∷ []) strands (one_word v) ≡ Err (turn + 1)
+  measured_late live fits is weigh = measured live fits is ∙ ap (at_turn (turn + 1)) weigh
+
+  pub measured_fails : all_fit ≡ false → rest_of c turn (Measure k ∷ []) strands (one_word v) ≡ Err turn
+  measured_fails fails = rw (and_one all_fit false fails) refl
+
+  module _ (sign : Sign) (cs : List Command) where
+    -- a braid, and what follows it
+    pub braid_one : (after : List ℕ) (w : Vector E) → braided_fits c strands sign k v ≡ true → after ≡ swapped strands k → w ≡ braided c strands sign k v
+        → rest_of c turn (Braid k sign ∷ cs) strands (one_word v) ≡ rest_of c (turn + 1) cs after (one_word w)
+    braid_one after w fits swaps is =
+        let turns : turn + suc (length cs) ≡ (turn + 1) + length cs = omega arith in
+        rw (and_one (braided_fits c strands sign k v) true fits, turns)
+        (λ j. rest_of c (turn + 1) cs (sym swaps j) (one_word (sym is j)))
+
+    pub braid_fails : braided_fits c strands sign k v ≡ false → rest_of c turn (Braid k sign ∷ cs) strands (one_word v) ≡ Err turn
+    braid_fails fails = rw (and_one (braided_fits c strands sign k v) false fails) refl
+
+gap_parts : (n k : ℕ) → is_gap n k ≡ true → (0 < k) × (k < n)
+gap_parts n k h =
+    let parts = and_true (nat_lt 0 k) (nat_lt k n) h in
+    let low : nat_lt 0 k ≡ true = parts.0 in
+    let high : nat_lt k n ≡ true = parts.1 in
+    (grind (arith, nat_tests), grind (arith, nat_tests))
+
+-- a braid's gap, and the form of what follows it
+pub record BraidForm (n k : ℕ) (cs : List Command) : Type 0 where
+  pub low : 0 < k
+  pub high : k < n
+  pub left : is_measured_braid n cs ≡ true
+
+pub braid_form : (n k : ℕ) (sign : Sign) (cs : List Command) → is_measured_braid n (Braid k sign ∷ cs) ≡ true → BraidForm n k cs
+braid_form n k sign cs h =
+    let parts = and_true (is_gap n k) (is_measured_braid n cs) h in
+    let gap = gap_parts n k parts.0 in
+    record { low = gap.0; high = gap.1; left = parts.1 }
+
+-- a measurement's gap, behind which nothing comes
+pub record MeasureForm (n k : ℕ) (cs : List Command) : Type 0 where
+  pub low : 0 < k
+  pub high : k < n
+  pub last : cs ≡ []
+
+pub measure_form : (n k : ℕ) (cs : List Command) → is_measured_braid n (Measure k ∷ cs) ≡ true → MeasureForm n k cs
+measure_form n k [] h = let gap = gap_parts n k h in record { low = gap.0; high = gap.1; last = refl }
+measure_form n k (x ∷ cs) h = absurd (cc)
+
+pub no_raise : (n k : ℕ) (cs : List Command) → is_measured_braid n (Raise k ∷ cs) ≡ true → ⊥
+no_raise n k cs h = cc
+
+pub no_end : (n : ℕ) → is_measured_braid n [] ≡ true → ⊥
+no_end n h = cc
