@@ -11,14 +11,14 @@ use Rattle.category_text.specs.Named.{NamedSymbols}
 use Rattle.category_text.specs.Reading.{Fault, category_of}
 use Rattle.program_text.specs.Program.{Program}
 use Rattle.program_text.specs.Reading.{comb_program_of}
-use Rattle.comb_laws.specs.Plans.{Outcomes}
+use Rattle.comb_laws.specs.Comb.{commands_of}
+use Rattle.comb_laws.specs.Plans.{Outcomes, outcomes_of}
 use Rattle.comb_laws.specs.Evaluated.{evaluation_of}
 use Rattle.anyon_app.specs.declared.texts.Kind.TheVariants.{Category, Program as ProgramText}
 use Rattle.anyon_app.specs.Replies.{Reply, done}
 use Rattle.anyon_app.specs.Refusals.{too_long, category_line, category_not_built, rules_line, h_overflow, s_overflow, program_not_built, turn_overflow}
 use Rattle.anyon_app.specs.Report.{report_of}
 use Rattle.anyon_app.specs.Work.{Work, Says, read_work, judged}
-use Rattle.anyon_app.specs.StandIn.{commands_of}
 
 -- the category of a text, or the reply at its first fault
 abbrev pub named_or : Result NamedSymbols Fault → Result NamedSymbols Reply
@@ -65,13 +65,16 @@ plan_of named text = plan_or (comb_program_of named.names named.given.count name
 abbrev pub symbols_in : NamedSymbols → Symbols Ratio
 symbols_in named = symbols_of (ring_at named.root) held named.given
 
--- the report of what was run, or the turn where it stopped
-abbrev pub report_or : List (List ℕ) → Result (Outcomes Ratio) ℕ → Result (List ℕ) Reply
-report_or names (Ok outcomes) = Ok (report_of names outcomes)
-report_or names (Err turn) = Err (turn_overflow turn)
+-- the report of these outcomes, unless the evaluation stops at a turn
+abbrev pub report_or : List (List ℕ) → Outcomes Ratio → Result (Outcomes Ratio) ℕ → Result (List ℕ) Reply
+report_or names outcomes (Ok evaluated) = Ok (report_of names outcomes)
+report_or names outcomes (Err turn) = Err (turn_overflow turn)
 
+-- the report of the total and the rows by the comb operators, or the turn at which the stated evaluation stops
 abbrev pub rows_of : NamedSymbols → Program → Result (List ℕ) Reply
-rows_of named plan = report_or named.names (evaluation_of (symbols_in named) plan.start (commands_of plan))
+rows_of named plan =
+    report_or named.names (outcomes_of (symbols_in named) plan.start (commands_of plan))
+    (evaluation_of (symbols_in named) plan.start (commands_of plan))
 
 -- The category of the first text; its labels; its derived symbols; the program of the second text; its rows.
 unfoldable pub comb_work : List ℕ → List ℕ → Work

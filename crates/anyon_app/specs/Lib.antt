@@ -4,7 +4,6 @@ pub mod Work
 pub mod Stages
 pub mod Causes
 pub mod Refusals
-pub mod StandIn
 pub mod Report
 pub mod Comb
 pub mod Headline

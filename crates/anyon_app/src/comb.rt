@@ -1,5 +1,5 @@
 // The command `comb CAT PROG`.
-ghost use Rattle.std.specs.Prelude.{◌≡◌, ◌<◌, ◌-◌, ◌^◌, IfOk, OnOk, length, true};
+ghost use Rattle.std.specs.Prelude.{◌≡◌, ◌<◌, ◌-◌, ◌^◌, IfOk, length, true};
 ghost use Rattle.cyclo_core.specs.Ratio.{ring_at};
 ghost use Rattle.fusion_rules.specs.Fusion.{fuses};
 ghost use Rattle.symbol_table.specs.Draft.{given};
@@ -17,10 +17,10 @@ use crate::refusals::{
     turn_overflow,
 };
 use crate::report::report;
-use crate::stand_in::{RunFault, comb_draft};
 use crate::stop::Stop;
 use crate::texts::{Kind, text};
 use category_text::{CategoryFault, Named, read_category};
+use comb_laws::{RunFault, comb_draft};
 use cyclo_core::Cyclo;
 use derive_symbols::{DeriveFault, derive_draft};
 use io_ports::Shelf;
@@ -84,8 +84,7 @@ fn category(alloc: Global, text: &[u8]) -> Result<Named, Stop>
 
 // Judges the labels of a category.
 fn judge(alloc: Global, named: &Named) -> Result<(), Stop>
-    ensures gives { Gives (λ _. tt) result (unless (rules_verdict (seen named.now))) }
-    ensures two { OnOk result (named.now.draft.rules.count ≡ 2) }
+    ensures { Gives (λ _. tt) result (unless (rules_verdict (seen named.now))) }
 {
     let rules = named.draft.rules();
     if rules.count() != 2 {
@@ -131,7 +130,6 @@ fn rows(
     derived: &Derived<Cyclo>,
     plan: &Plan,
 ) -> Result<Vec<u8>, Stop>
-    requires two { named.now.draft.rules.count ≡ 2 }
     requires form { is_comb_program (fuses named.now.draft.rules) named.now.draft.rules.count (program_of plan.now) ≡ true }
     requires holds { HoldsSymbols (ring_at named.now.draft.ring) (given named.now.draft) derived.now }
     ensures { Gives (λ report. report.items) result (rows_of (seen named.now) (program_of plan.now)) }

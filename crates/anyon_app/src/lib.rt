@@ -16,7 +16,6 @@ mod laws;
 mod lines;
 mod refusals;
 mod report;
-mod stand_in;
 mod status;
 mod stop;
 mod texts;

@@ -3,18 +3,19 @@ ghost use Rattle.std.specs.Prelude.{◌≡◌, ◌++◌, IfOk, OnOk};
 ghost use Rattle.anyon_app.specs.Lines.{line_of, spaced_on};
 ghost use Rattle.anyon_app.specs.Refusals.{label_names};
 ghost use Rattle.anyon_app.specs.Report.{report_of, row_words};
-ghost use Rattle.anyon_app.specs.StandIn.{outcomes, row_of};
+ghost use Rattle.comb_laws.specs.Comb.{outcomes_in};
 
 use crate::refusals::label_name;
-use crate::stand_in::{Row, Rows};
+use comb_laws::{Row, Rows};
+use cyclo_core::Cyclo;
 use cyclo_text::write_number;
 use fusion_rules::Names;
 use std::alloc::{AllocError, Global};
 
 /// The total, and then a line for each row.
 #[tactic(auto, using(crate::proofs::LineLemmas::report_rules))]
-pub fn report(alloc: Global, names: &Names, rows: &Rows) -> Result<Vec<u8>, AllocError>
-    ensures { IfOk result (λ report. report.items ≡ report_of names.now (outcomes rows.now)) }
+pub fn report(alloc: Global, names: &Names, rows: &Rows<Cyclo>) -> Result<Vec<u8>, AllocError>
+    ensures { IfOk result (λ report. report.items ≡ report_of names.now (outcomes_in rows.now)) }
 {
     let mut out = Vec::from_slice(alloc, b"total ")?;
     write_number(alloc, &rows.total, &mut out)?;
@@ -30,10 +31,10 @@ pub fn report(alloc: Global, names: &Names, rows: &Rows) -> Result<Vec<u8>, Allo
 fn write_row(
     alloc: Global,
     names: &Names,
-    row: &Row,
+    row: &Row<Cyclo>,
     out: &mut Vec<u8>,
 ) -> Result<(), AllocError>
-    ensures { OnOk result (out.new.items ≡ out.old.items ++ line_of (row_words names.now (row_of row.now))) }
+    ensures { OnOk result (out.new.items ≡ out.old.items ++ line_of (row_words names.now (row.now.word.items, row.now.weight))) }
 {
     out.extend_from_slice(b"outcome")?;
     write_labels(names, &row.word, out)?;
