@@ -1,5 +1,5 @@
 -- Labels of symbols, and their values.
-use Rattle.std.proofs.Common.{◌≡◌, ℕ, ◌<◌, List, Bool, length, refl, ap, sym, subst, ◌∙◌, arith, true, false, ltb, if◌then◌else◌, Option, Some, None, Result, Ok, Err}
+use Rattle.std.proofs.Common.{◌≡◌, ℕ, ◌<◌, List, Bool, length, refl, ap, subst, ◌∙◌, arith, true, false, ltb, if◌then◌else◌, Option, Some, None, Result, Ok, Err}
 use Rattle.std.specs.Prelude.{OnOk}
 use Rattle.std.specs.List.{position_or_len}
 use Rattle.std.specs.Str.{bytes_eq}
@@ -7,7 +7,7 @@ use Rattle.std.proofs.lemmas.Bool.Decides.{nat_tests}
 use Rattle.fusion_rules.specs.Names.{label_of}
 use Rattle.cyclo_core.specs.Ratio.{Ratio}
 use Rattle.symbol_table.specs.Symbols.{Given}
-use Rattle.symbol_table.specs.Draft.{DraftValue, Sets, SetsF, SetsVertex, given, f_fault, vertex_fault, with_f, with_r, with_w, with_v}
+use Rattle.symbol_table.specs.Draft.{DraftValue, Sets, SetsF, SetsVertex, given, with_f, with_r, with_w, with_v}
 use Rattle.symbol_table.specs.declared.draft.SetFault.{SetFault}
 use Rattle.symbol_table.specs.declared.draft.SetFault.TheVariants as set
 use Rattle.symbol_table.specs.declared.index.FIndex.{FIndex}
