@@ -1,8 +1,9 @@
 mod Fib
-mod Rows
+mod Worked
 pub mod ActLemmas
 pub mod EntryLemmas
 pub mod Gather
+pub mod LiveLemmas
 pub mod OrderLemmas
 pub mod PathLemmas
 pub mod Values

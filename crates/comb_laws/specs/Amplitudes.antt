@@ -32,4 +32,4 @@ own_path (Joined l r q) = own_path l ++ q ∷ []
 
 -- the vector that is one at a left-combed tree's own path, and zero elsewhere
 abbrev pub own_vector : {E : Type 0} → Ring E → Labelled → Vector E
-own_vector r tree x = if bytes_eq x (own_path tree) then r.one else r.zero
+own_vector r tree x = if bytes_eq (own_path tree) x then r.one else r.zero

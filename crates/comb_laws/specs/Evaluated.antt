@@ -133,13 +133,15 @@ run_from c turn (Measure k ∷ cs) strands live =
     then run_from c (turn + 1) cs strands (flat_map (outcomes_at c strands k) live)
     else Err turn
 
--- the weights of the live words, in their order; none where an item of one doesn't fit
-abbrev pub weights_at : {E : Type 0} → Symbols E → List ℕ → List (Live E) → Option (List (List ℕ × E))
-weights_at c strands [] = Some []
-weights_at c strands (l ∷ ls) = do
-  weight ← weight_at c strands l.vector
-  rest ← weights_at c strands ls
-  Some ((l.word, weight) ∷ rest)
+-- one more live word: its row, if its weight isn't zero
+abbrev pub row_step : {E : Type 0} → Symbols E → List ℕ → Live E → List (List ℕ × E) → Option (List (List ℕ × E))
+row_step c strands live rows = do
+  weight ← weight_at c strands live.vector
+  Some (if c.held.is_zero weight then rows else rows ++ (live.word, weight) ∷ [])
+
+-- the live words whose weight isn't zero, each with its weight, in their order; none where an item of one doesn't fit
+abbrev pub rows_at : {E : Type 0} → Symbols E → List ℕ → List (Live E) → Option (List (List ℕ × E))
+rows_at c strands live = steps_over (row_step c strands) live []
 
 -- a value, or the turn at which its evaluation stops
 abbrev pub at_turn : {A : Type 0} → ℕ → Option A → Result A ℕ
@@ -152,12 +154,21 @@ abbrev pub ◌>>>◌ : {A B : Type 0} → Result A ℕ → (A → Result B ℕ) 
 (Ok x) >>> f = f x
 (Err turn) >>> f = Err turn
 
--- The total and the rows of a plan, or the turn of the first item that doesn't fit: turn 0 evaluates the total, each
--- command is a turn, and the turn after the last one evaluates the weights of the live words.
+-- The rows that follow from live words, where the first of the commands has this turn; the turn after the last command
+-- evaluates the weights.
+abbrev pub rest_of : {E : Type 0} → Symbols E → ℕ → List Command → List ℕ → List (Live E) → Result (List (List ℕ × E)) ℕ
+rest_of c turn commands strands live =
+    run_from c turn commands strands live >>> λ end. at_turn (turn + length commands) (rows_at c end.0 end.1)
+
+-- one live word, without outcomes
+abbrev pub one_word : {E : Type 0} → Vector E → List (Live E)
+one_word v = record { word = []; vector = v } ∷ []
+
+-- The total and the rows of a left-combed start and its commands, or the turn of the first item that doesn't fit: turn 0
+-- evaluates the total, each command is a turn from 1 on.
 abbrev pub evaluation_of : {E : Type 0} → Symbols E → Labelled → List Command → Result (Outcomes E) ℕ
 evaluation_of c tree commands =
     let start = own_vector c.ring tree in
     at_turn 0 (weight_at c (leaves tree) start) >>> λ sum.
-    run_from c 1 commands (leaves tree) (record { word = []; vector = start } ∷ []) >>> λ end.
-    at_turn (length commands + 1) (weights_at c end.0 end.1) >>> λ weights.
-    Ok (record { total = sum; rows = filter (λ row. not (c.held.is_zero row.1)) weights })
+    rest_of c 1 commands (leaves tree) (one_word start) >>> λ rows.
+    Ok (record { total = sum; rows = rows })

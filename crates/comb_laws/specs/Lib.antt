@@ -1,6 +1,7 @@
 pub mod Amplitudes
 pub mod Entries
 pub mod Evaluated
+pub mod Lives
 pub mod Operations
 pub mod Operators
 pub mod Paths

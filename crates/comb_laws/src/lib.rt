@@ -14,7 +14,13 @@
 mod act;
 mod fault;
 mod kernel;
+mod live;
+mod rows;
+mod run;
 mod source;
+mod start;
 mod terms;
 mod vector;
 mod weigh;
+
+pub use rows::{Row, Rows, RunFault};

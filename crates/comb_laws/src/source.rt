@@ -1,8 +1,10 @@
-ghost use Rattle.std.specs.Prelude.{◌≡◌, ◌<◌, ◌≤◌, IsTrue, true};
+ghost use Rattle.std.specs.Prelude.{◌≡◌, ◌<◌, ◌≤◌, ℕ, IsTrue, true};
 ghost use Rattle.symbol_table.specs.Symbols.{Given, f_admissible, f_of, h_of, s_of, vertex_of};
+ghost use Rattle.symbol_table.specs.Draft.{given};
+ghost use Rattle.symbol_table.specs.Derived.{HoldsSymbols};
 
 use ring_laws::StarRing;
-use symbol_table::{FIndex, VIndex};
+use symbol_table::{Derived, Draft, FIndex, VIndex};
 
 /// Where an engine reads the symbols of a category: each at the admissible indices.
 pub(crate) trait SymbolSource<R: StarRing> {
@@ -13,10 +15,12 @@ pub(crate) trait SymbolSource<R: StarRing> {
     fn ring(&self) -> &R
         ensures { result.now ≡ base self.now };
 
-    /// How many labels there are, 12 at most.
+    /// How many labels there are, 1 to 12. The unit times a label has that label.
     fn count(&self) -> u8
         ensures value { result ≡ (given self.now).count }
-        ensures few { result ≤ 12 };
+        ensures some { 0 < (given self.now).count }
+        ensures few { result ≤ 12 }
+        ensures units { (a : ℕ) → a < (given self.now).count → (given self.now).fuse 0 a a ≡ true };
 
     /// Whether c occurs in a times b.
     fn allows(&self, a: u8, b: u8, c: u8) -> bool
@@ -49,4 +53,49 @@ pub(crate) trait SymbolSource<R: StarRing> {
         requires { (given self.now).fuse at.now.a at.now.b at.now.c ≡ true }
         ensures value { result ≡ vertex_of (R.ring (base self.now)) (given self.now) (given self.now).set_w at.now.a at.now.b at.now.c }
         ensures member { IsTrue ((R.ring (base self.now)).member result) };
+}
+
+/// The symbols of a draft, with those derived from it.
+pub(crate) struct DraftSymbols<'a, R: StarRing> {
+    pub(crate) draft: &'a Draft<R>,
+    pub(crate) derived: &'a Derived<R>,
+    ghost holds: { HoldsSymbols (R.ring draft.now.ring) (given draft.now) derived.now },
+}
+
+impl<'a, R: StarRing> SymbolSource<R> for DraftSymbols<'a, R> {
+    ghost base = { λ s. s.draft.now.ring };
+
+    ghost given = { λ s. given s.draft.now };
+
+    fn ring(&self) -> &R {
+        self.draft.ring()
+    }
+
+    fn count(&self) -> u8 {
+        self.draft.rules().count()
+    }
+
+    fn allows(&self, a: u8, b: u8, c: u8) -> bool {
+        self.draft.rules().allows(a, b, c)
+    }
+
+    fn f(&self, at: &FIndex) -> R::Elem {
+        self.draft.f(at)
+    }
+
+    fn h(&self, at: &FIndex) -> R::Elem {
+        self.derived.h(self.draft.ring(), at)
+    }
+
+    fn r(&self, at: &VIndex) -> R::Elem {
+        self.draft.r(at)
+    }
+
+    fn s(&self, at: &VIndex) -> R::Elem {
+        self.derived.s(self.draft.ring(), at)
+    }
+
+    fn w(&self, at: &VIndex) -> R::Elem {
+        self.draft.w(at)
+    }
 }

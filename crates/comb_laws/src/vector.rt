@@ -1,6 +1,6 @@
 //! Comb vectors by the paths whose value isn't zero.
 
-ghost use Rattle.std.specs.Prelude.{◌≡◌, ◌<◌, ◌≤◌, ◌++◌, ℕ, [], List, length, slice_set, OnOk, OnErr, IfOk, if◌then◌else◌, Some, All, IsTrue};
+ghost use Rattle.std.specs.Prelude.{◌≡◌, ◌↔◌, ◌<◌, ◌≤◌, ◌++◌, ℕ, [], List, length, slice_set, OnOk, OnErr, IfOk, if◌then◌else◌, Some, All, IsTrue};
 ghost use Rattle.std.specs.Str.{bytes_eq};
 ghost use Rattle.std.specs.Option.{option_copied};
 ghost use Rattle.std.specs.Map.{keys_of};
@@ -61,6 +61,13 @@ impl<R: StarRing> CombVector<R> {
             Ok(_) => Ok(()),
             Err(e) => Err(AllocError::from(e)),
         }
+    }
+
+    /// Whether no path has a value.
+    pub(crate) fn is_empty(&self) -> bool
+        ensures { IsTrue result ↔ (self.now ≡ []) }
+    {
+        self.entries.is_empty()
     }
 
     /// The paths that agree with one of this vector's at all places but k, with each label there.

@@ -1,5 +1,5 @@
 //! Numbers of one root, and their ring.
-ghost use Rattle.std.specs.Prelude.{◌≡◌, ◌↔◌, ℕ, ℤ, pos, ◌≤◌, ◌<◌, ◌^◌, ◌-◌, ◌*◌, ◌/◌, unsigned_abs, IsTrue, IsOk, IfOk};
+ghost use Rattle.std.specs.Prelude.{◌≡◌, ◌↔◌, ℕ, ℤ, pos, ◌≤◌, ◌<◌, ◌^◌, ◌-◌, ◌*◌, ◌/◌, unsigned_abs, length, IsTrue, IsOk, IfOk};
 ghost use Rattle.poly_core.specs.Gcd.{totient};
 ghost use Rattle.poly_core.specs.Rho.{is_accepted, degree, order};
 ghost use Rattle.poly_core.specs.Table.{at};
@@ -51,6 +51,8 @@ impl Number {
         ensures positive { 0 < self.now.denominator }
         ensures bounded { self.now.denominator ≤ 2 ^ 127 - 1 }
         ensures lowest { content self.now.denominator 16 (at self.now.numerators) ≡ 1 }
+        ensures full { length self.now.numerators ≡ 16 }
+        ensures held { IsTrue (is_held self.now) }
     {
         self.denominator as i128
     }

@@ -1,3 +1,5 @@
 pub mod DigitLemmas
 pub mod PieceLemmas
+pub mod ReadBack
 pub mod ReadLemmas
+pub mod TrimLemmas

@@ -1,5 +1,5 @@
 -- The cases of a number word, and the step of its values.
-use Rattle.std.proofs.Common.{◌≡◌, ◌≢◌, ℕ, zero, suc, ◌+◌, ◌-◌, ◌^◌, ◌<◌, ◌≤◌, Bool, true, false, ◌&&◌, List, [], ◌∷◌, length, refl, sym, ap, ◌∙◌, subst, arith, inl, inr, length-set, get_or-set_other}
+use Rattle.std.proofs.Common.{◌≡◌, ℕ, zero, suc, ◌+◌, ◌-◌, ◌^◌, ◌<◌, ◌≤◌, Bool, true, false, ◌&&◌, List, ◌∷◌, length, refl, sym, ap, ◌∙◌, arith, length-set}
 use Rattle.std.specs.Prelude.{ℤ, pos, map, set, nat_le, nat_eq, unsigned_abs, Some, None, Ok, Err, Result, if◌then◌else◌}
 use Rattle.std.specs.List.{list_all}
 use Rattle.std.specs.Str.Parse.{digits_value}
@@ -7,8 +7,8 @@ use Rattle.std.proofs.lemmas.Int.{ints}
 use Rattle.std.proofs.lemmas.Bool.Decides.{nat_tests}
 use Rattle.poly_core.specs.Combination.{Sequence, pointwise}
 use Rattle.poly_core.specs.Gcd.{totient}
-use Rattle.poly_core.specs.Table.{at, past_end}
-use Rattle.poly_core.proofs.Filling.{Filled, more}
+use Rattle.poly_core.specs.Table.{at}
+use Rattle.poly_core.proofs.Filling.{more}
 use Rattle.cyclo_core.specs.Given.{are_small, number_of as given}
 use Rattle.cyclo_core.specs.Ratio.{Ratio, reduced, most}
 use Rattle.cyclo_core.specs.declared.fault.NumberFault.{NumberFault}
@@ -60,7 +60,7 @@ value_of-big_under root parts u few fits big =
     let f = no u most (λ le. omega arith) in
     rw (e, fits, f) refl
 
-value_of-fits : (root : ℕ) (parts : List (List ℕ)) (u : ℕ) → length parts ≤ totient root → list_all part_fits parts ≡ true → u ≤ most
+pub value_of-fits : (root : ℕ) (parts : List (List ℕ)) (u : ℕ) → length parts ≤ totient root → list_all part_fits parts ≡ true → u ≤ most
     → value_of root parts u ≡ (if nat_eq u 0 then Err ZeroDenominator else Ok (reduced (at (map part_value parts)) u))
 unfolding value_of
 value_of-fits root parts u few fits small =

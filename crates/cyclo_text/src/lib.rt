@@ -12,6 +12,11 @@ mod digits;
 mod fault;
 mod pieces;
 mod read;
+mod write;
 
 pub use fault::NumberWord;
 pub use read::read_number;
+pub use write::write_number;
+
+#[cfg(test)]
+mod tests;

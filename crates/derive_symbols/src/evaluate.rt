@@ -31,7 +31,8 @@ fn conjugate_weighted<R: StarRing>(
 pub(crate) fn evaluate_h<R: StarRing>(draft: &Draft<R>, at: &FIndex) -> Result<R::Elem, Overflow>
     requires labels { AreSixLabels draft.now.rules.count at.now.a at.now.b at.now.c at.now.d at.now.e at.now.f }
     requires admissible { IsTrue (f_index_admissible (given draft.now) at.now) }
-    ensures value { Gives result (h_at (R.ring draft.now.ring) (given draft.now) at.now.a at.now.b at.now.c at.now.d at.now.f at.now.e) }
+    ensures value { Gives result
+        (h_at (R.ring draft.now.ring) (given draft.now) at.now.a at.now.b at.now.c at.now.d at.now.f at.now.e) }
     ensures member { IfOk result (λ z. IsTrue ((R.ring draft.now.ring).member z)) }
 {
     let ring = draft.ring();

@@ -47,3 +47,6 @@ pub fn derive_draft<R: StarRing>(alloc: Global, draft: &Draft<R>) -> Result<Deri
     derive_more(draft, &mut derived, Symbol::S, 3, Labels::new())?;
     Ok(derived)
 }
+
+#[cfg(test)]
+mod tests;

@@ -28,7 +28,8 @@ fn derive_h<R: StarRing>(
 ) -> Result<(), DeriveFault>
     requires long { length index.now ≡ 6 }
     requires labels { All (λ t. t < draft.now.rules.count) index.now }
-    ensures { Fills (R.ring draft.now.ring) (given draft.now) result Symbol.H 0 index.now derived.old derived.new }
+    ensures { Fills (R.ring draft.now.ring) (given draft.now) result Symbol.H 0 index.now derived.old
+        derived.new }
 {
     let at = FIndex {
         a: index[0],
@@ -58,7 +59,8 @@ fn derive_s<R: StarRing>(
 ) -> Result<(), DeriveFault>
     requires long { length index.now ≡ 3 }
     requires labels { All (λ t. t < draft.now.rules.count) index.now }
-    ensures { Fills (R.ring draft.now.ring) (given draft.now) result Symbol.S 0 index.now derived.old derived.new }
+    ensures { Fills (R.ring draft.now.ring) (given draft.now) result Symbol.S 0 index.now derived.old
+        derived.new }
 {
     let at = VIndex {
         a: index[0],
@@ -85,7 +87,8 @@ fn derive_at<R: StarRing>(
 ) -> Result<(), DeriveFault>
     requires long { length index.now ≡ places symbol }
     requires labels { All (λ t. t < draft.now.rules.count) index.now }
-    ensures { Fills (R.ring draft.now.ring) (given draft.now) result symbol 0 index.now derived.old derived.new }
+    ensures { Fills (R.ring draft.now.ring) (given draft.now) result symbol 0 index.now derived.old
+        derived.new }
 {
     match symbol {
         Symbol::H => derive_h(draft, derived, index),
@@ -114,7 +117,8 @@ pub(crate) fn derive_more<R: StarRing>(
 ) -> Result<(), DeriveFault>
     requires long { length index + more ≡ places symbol }
     requires labels { All (λ t. t < draft.now.rules.count) index }
-    ensures { Fills (R.ring draft.now.ring) (given draft.now) result symbol more index derived.old derived.new }
+    ensures { Fills (R.ring draft.now.ring) (given draft.now) result symbol more index derived.old
+        derived.new }
 {
     if !goes_on(draft.rules(), symbol, index.as_slice()) {
         return Ok(());

@@ -28,7 +28,8 @@ fn commute(rules: &Rules) -> Result<(), RulesFault>
 #[tactic(auto, using(crate::proofs::FaultLemmas::next))]
 fn commute_with(rules: &Rules, a: u8) -> Result<(), RulesFault>
     requires { a < rules.now.count }
-    ensures { Answers result (first_below rules.now.count (λ b. first_below rules.now.count (mirror_fault (fuses rules.now) a b))) }
+    ensures { Answers result
+        (first_below rules.now.count (λ b. first_below rules.now.count (mirror_fault (fuses rules.now) a b))) }
 {
     for b in 0..rules.count() {
         are_mirrored(rules, a, b)?;
@@ -64,7 +65,8 @@ fn associate(rules: &Rules) -> Result<(), RulesFault>
 #[tactic(auto, using(crate::proofs::FaultLemmas::next))]
 fn associate_with(rules: &Rules, a: u8) -> Result<(), RulesFault>
     requires { a < rules.now.count }
-    ensures { Answers result (first_below rules.now.count (λ b. first_below rules.now.count (λ c. first_below rules.now.count (ways_fault rules.now.count (fuses rules.now) a b c)))) }
+    ensures { Answers result
+        (first_below rules.now.count (λ b. first_below rules.now.count (λ c. first_below rules.now.count (ways_fault rules.now.count (fuses rules.now) a b c)))) }
 {
     for b in 0..rules.count() {
         associate_with_both(rules, a, b)?;
@@ -76,7 +78,8 @@ fn associate_with(rules: &Rules, a: u8) -> Result<(), RulesFault>
 fn associate_with_both(rules: &Rules, a: u8, b: u8) -> Result<(), RulesFault>
     requires first { a < rules.now.count }
     requires second { b < rules.now.count }
-    ensures { Answers result (first_below rules.now.count (λ c. first_below rules.now.count (ways_fault rules.now.count (fuses rules.now) a b c))) }
+    ensures { Answers result
+        (first_below rules.now.count (λ c. first_below rules.now.count (ways_fault rules.now.count (fuses rules.now) a b c))) }
 {
     for c in 0..rules.count() {
         have_equal_ways(rules, a, b, c)?;
@@ -89,7 +92,8 @@ fn have_equal_ways(rules: &Rules, a: u8, b: u8, c: u8) -> Result<(), RulesFault>
     requires first { a < rules.now.count }
     requires second { b < rules.now.count }
     requires third { c < rules.now.count }
-    ensures { Answers result (first_below rules.now.count (ways_fault rules.now.count (fuses rules.now) a b c)) }
+    ensures { Answers result
+        (first_below rules.now.count (ways_fault rules.now.count (fuses rules.now) a b c)) }
 {
     for d in 0..rules.count() {
         if ways_left(rules, a, b, c, d) != ways_right(rules, a, b, c, d) {

@@ -4,11 +4,13 @@ ghost use Rattle.fusion_rules.specs.Names.{is_name, all_name_bytes, is_name_byte
 use arrayvec::ArrayString;
 use std::str;
 
+/// The most bytes of a name.
 const LONGEST: usize = 8;
 
 /// A name in the value itself, where the word is one.
 pub(crate) fn small_name(word: &[u8]) -> Option<ArrayString<LONGEST>>
-    ensures { MatchOption result (is_name word.now ≡ false) (λ name. (is_name word.now ≡ true) × (name.bytes ≡ word.now)) }
+    ensures { MatchOption result (is_name word.now ≡ false)
+        (λ name. (is_name word.now ≡ true) × (name.bytes ≡ word.now)) }
 {
     if !is_name(word) {
         return None;

@@ -8,18 +8,24 @@ use indexmap::IndexSet;
 use std::alloc::Global;
 use std::marker::Model;
 
+/// The most names.
 const LIMIT: usize = 12;
 
 /// Why a name isn't added.
 #[derive(Clone, Copy, Debug, PartialEq, Eq)]
 pub enum NameFault {
+    /// The word isn't 1 to 8 letters, digits or `_`.
     Spelling,
+    /// Twelve names are there.
     Full,
+    /// The name is there already.
     Repeated,
+    /// There was no memory for one name more.
     Memory,
 }
 
-/// At most twelve names, each once, in the order added.
+/// The names of at most twelve labels, each once, in the order added: the label of a name is its place,
+/// counted from 0.
 #[derive(Drop)]
 pub struct Names {
     set: IndexSet<ArrayString<8>>,
@@ -47,7 +53,10 @@ impl Names {
         }
     }
 
-    /// Adds a name, and gives its label.
+    /// Adds a name behind the others, and gives its label.
+    ///
+    /// Refuses `Spelling`, else `Full` where twelve names are there, else `Repeated`. Refused, or for want of
+    /// memory, the names are unchanged.
     pub fn add(&mut self, name: &[u8]) -> Result<u8, NameFault>
         ensures { added result name.now self.old self.new }
     {
@@ -66,7 +75,7 @@ impl Names {
         Ok(index as u8)
     }
 
-    /// The label of a name.
+    /// The label of a name, or none where it isn't among the names.
     pub fn number(&self, name: &[u8]) -> Option<u8>
         ensures { result ≡ label_of self.now name.now }
     {
@@ -76,7 +85,7 @@ impl Names {
         Some(index as u8)
     }
 
-    /// The name of a label.
+    /// The name of a label below the count.
     pub fn name(&self, label: u8) -> &str
         requires { label < length self.now }
         ensures { result.now ≡ slice_index_or self.now label [] }
@@ -84,11 +93,32 @@ impl Names {
         self.set.as_slice()[label as usize].as_str()
     }
 
-    /// How many names there are.
+    /// How many names there are: at most twelve.
     pub fn count(&self) -> u8
         ensures count { result ≡ length self.now }
         ensures names { AreNames self.now }
     {
         self.set.len() as u8
+    }
+}
+
+#[cfg(test)]
+mod tests {
+    use super::*;
+    use std::test::Fail;
+
+    #[test]
+    fn labels(rt: HostRuntime) -> Result<(), Fail> {
+        let mut names = Names::new(rt.alloc());
+        assert_eq!(rt; names.add(b"1")?, 0);
+        assert_eq!(rt; names.add(b"tau_2")?, 1);
+        assert_eq!(rt; names.add(b"tau_2"), Err(NameFault::Repeated));
+        assert_eq!(rt; names.add(b"t-2"), Err(NameFault::Spelling));
+        assert_eq!(rt; names.add(b"123456789"), Err(NameFault::Spelling));
+        assert_eq!(rt; names.number(b"tau_2"), Some(1));
+        assert_eq!(rt; names.number(b"tau"), None);
+        assert_eq!(rt; names.count(), 2);
+        assert_eq!(rt; names.name(1), "tau_2");
+        Ok(())
     }
 }

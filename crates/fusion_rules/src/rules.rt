@@ -148,3 +148,29 @@ impl Rules {
         unreachable!()
     }
 }
+
+#[cfg(test)]
+mod tests {
+    use super::*;
+    use std::test::Fail;
+
+    // Ising: s times s is 1 and p, s times p is s, p times p is 1.
+    #[test]
+    fn ising(rt: HostRuntime) -> Result<(), Fail> {
+        let mut rules = Rules::new(3);
+        rules.allow(1, 1, 0)?;
+        rules.allow(1, 1, 2)?;
+        rules.allow(1, 2, 1)?;
+        assert_eq!(rt; rules.check(), Err(RulesFault::NotCommutative(1, 2, 1)));
+        rules.allow(2, 1, 1)?;
+        assert_eq!(rt; rules.check(), Err(RulesFault::NotAssociative(1, 1, 2, 0)));
+        rules.allow(2, 2, 0)?;
+        assert_eq!(rt; rules.count(), 3);
+        assert!(rt; rules.allows(1, 1, 2) && !rules.allows(1, 1, 1));
+        rules.check()?;
+        assert_eq!(rt; rules.dual(2), 2);
+        assert_eq!(rt; rules.allow(2, 2, 0), Err(RuleRefused::Repeated));
+        assert_eq!(rt; Rules::new(2).allow(0, 1, 1), Err(RuleRefused::Unit));
+        Ok(())
+    }
+}

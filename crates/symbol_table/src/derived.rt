@@ -61,7 +61,8 @@ impl<R: StarRing> Derived<R> {
     /// The value of H(a,b,c,d;f,e) at the index of F(a,b,c,d;e,f). Asks that it was put and is a member of the
     /// ring.
     pub fn h(&self, ring: &R, at: &FIndex) -> R::Elem
-        requires { IsSomeAnd (h_put self.now at.now.a at.now.b at.now.c at.now.d at.now.f at.now.e) (λ x. IsTrue ((R.ring ring.now).member x)) }
+        requires { IsSomeAnd (h_put self.now at.now.a at.now.b at.now.c at.now.d at.now.f at.now.e)
+            (λ x. IsTrue ((R.ring ring.now).member x)) }
         ensures value { h_put self.now at.now.a at.now.b at.now.c at.now.d at.now.f at.now.e ≡ Some result }
         ensures member { IsTrue ((R.ring ring.now).member result) }
         ensures held { IsTrue (R.held.can_hold result) }
@@ -71,7 +72,8 @@ impl<R: StarRing> Derived<R> {
 
     /// The value of S(a,b,c). Asks that it was put and is a member of the ring.
     pub fn s(&self, ring: &R, at: &VIndex) -> R::Elem
-        requires { IsSomeAnd (s_put self.now at.now.a at.now.b at.now.c) (λ x. IsTrue ((R.ring ring.now).member x)) }
+        requires { IsSomeAnd (s_put self.now at.now.a at.now.b at.now.c)
+            (λ x. IsTrue ((R.ring ring.now).member x)) }
         ensures value { s_put self.now at.now.a at.now.b at.now.c ≡ Some result }
         ensures member { IsTrue ((R.ring ring.now).member result) }
         ensures held { IsTrue (R.held.can_hold result) }

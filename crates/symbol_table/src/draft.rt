@@ -50,7 +50,8 @@ impl<R: StarRing> Model for Draft<R> {
 impl<R: StarRing> Draft<R> {
     /// A draft of this ring and these rules, with no symbol set.
     pub fn new(alloc: Global, ring: R, rules: Rules) -> Draft<R>
-        ensures { result ≡ record { ring = ring; rules = rules; set_f = []; set_r = []; set_w = []; set_v = [] } }
+        ensures { result ≡ record
+            { ring = ring; rules = rules; set_f = []; set_r = []; set_w = []; set_v = [] } }
     {
         Draft {
             ring,
@@ -79,7 +80,8 @@ impl<R: StarRing> Draft<R> {
     /// F at an admissible index: the value that was set, or 1.
     pub fn f(&self, at: &FIndex) -> R::Elem
         requires { IsTrue (f_index_admissible (given self.now) at.now) }
-        ensures value { result ≡ f_of (R.ring self.now.ring) (given self.now) at.now.a at.now.b at.now.c at.now.d at.now.e at.now.f }
+        ensures value { result ≡ f_of (R.ring self.now.ring) (given self.now) at.now.a at.now.b at.now.c
+            at.now.d at.now.e at.now.f }
         ensures member { IsTrue ((R.ring self.now.ring).member result) }
         ensures held { IsTrue (R.held.can_hold result) }
     {
@@ -89,7 +91,8 @@ impl<R: StarRing> Draft<R> {
     /// R at an admissible index: the value that was set, or 1.
     pub fn r(&self, at: &VIndex) -> R::Elem
         requires { IsTrue (fuses self.now.rules at.now.a at.now.b at.now.c) }
-        ensures value { result ≡ vertex_of (R.ring self.now.ring) (given self.now) (given self.now).set_r at.now.a at.now.b at.now.c }
+        ensures value { result ≡ vertex_of (R.ring self.now.ring) (given self.now) (given self.now).set_r
+            at.now.a at.now.b at.now.c }
         ensures member { IsTrue ((R.ring self.now.ring).member result) }
         ensures held { IsTrue (R.held.can_hold result) }
     {
@@ -99,7 +102,8 @@ impl<R: StarRing> Draft<R> {
     /// The weight w at an admissible index: the value that was set, or 1.
     pub fn w(&self, at: &VIndex) -> R::Elem
         requires { IsTrue (fuses self.now.rules at.now.a at.now.b at.now.c) }
-        ensures value { result ≡ vertex_of (R.ring self.now.ring) (given self.now) (given self.now).set_w at.now.a at.now.b at.now.c }
+        ensures value { result ≡ vertex_of (R.ring self.now.ring) (given self.now) (given self.now).set_w
+            at.now.a at.now.b at.now.c }
         ensures member { IsTrue ((R.ring self.now.ring).member result) }
         ensures held { IsTrue (R.held.can_hold result) }
     {
@@ -109,7 +113,8 @@ impl<R: StarRing> Draft<R> {
     /// The inverse weight v at an admissible index: the value that was set, or 1.
     pub fn v(&self, at: &VIndex) -> R::Elem
         requires { IsTrue (fuses self.now.rules at.now.a at.now.b at.now.c) }
-        ensures value { result ≡ vertex_of (R.ring self.now.ring) (given self.now) (given self.now).set_v at.now.a at.now.b at.now.c }
+        ensures value { result ≡ vertex_of (R.ring self.now.ring) (given self.now) (given self.now).set_v
+            at.now.a at.now.b at.now.c }
         ensures member { IsTrue ((R.ring self.now.ring).member result) }
         ensures held { IsTrue (R.held.can_hold result) }
     {
@@ -139,7 +144,8 @@ impl<R: StarRing> Draft<R> {
     pub fn set_r(&mut self, at: VIndex, value: R::Elem) -> Result<(), SetFault>
         requires labels { AreThreeLabels self.old.rules.count at.a at.b at.c }
         requires member { IsTrue ((R.ring self.old.ring).member value) }
-        ensures told { Sets result (vertex_fault (given self.old) (given self.old).set_r at) self.old self.new (with_r self.old at value) }
+        ensures told { Sets result (vertex_fault (given self.old) (given self.old).set_r at) self.old self.new
+            (with_r self.old at value) }
         ensures sets { OnOk result (SetsVertex at value (given self.old).set_r (given self.new).set_r) }
     {
         if !self.rules.allows(at.a, at.b, at.c) {
@@ -155,7 +161,8 @@ impl<R: StarRing> Draft<R> {
     pub fn set_w(&mut self, at: VIndex, value: R::Elem) -> Result<(), SetFault>
         requires labels { AreThreeLabels self.old.rules.count at.a at.b at.c }
         requires member { IsTrue ((R.ring self.old.ring).member value) }
-        ensures told { Sets result (vertex_fault (given self.old) (given self.old).set_w at) self.old self.new (with_w self.old at value) }
+        ensures told { Sets result (vertex_fault (given self.old) (given self.old).set_w at) self.old self.new
+            (with_w self.old at value) }
         ensures sets { OnOk result (SetsVertex at value (given self.old).set_w (given self.new).set_w) }
     {
         if !self.rules.allows(at.a, at.b, at.c) {
@@ -171,7 +178,8 @@ impl<R: StarRing> Draft<R> {
     pub fn set_v(&mut self, at: VIndex, value: R::Elem) -> Result<(), SetFault>
         requires labels { AreThreeLabels self.old.rules.count at.a at.b at.c }
         requires member { IsTrue ((R.ring self.old.ring).member value) }
-        ensures told { Sets result (vertex_fault (given self.old) (given self.old).set_v at) self.old self.new (with_v self.old at value) }
+        ensures told { Sets result (vertex_fault (given self.old) (given self.old).set_v at) self.old self.new
+            (with_v self.old at value) }
         ensures sets { OnOk result (SetsVertex at value (given self.old).set_v (given self.new).set_v) }
     {
         if !self.rules.allows(at.a, at.b, at.c) {

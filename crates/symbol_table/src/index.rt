@@ -20,8 +20,10 @@ pub struct FIndex {
 impl FIndex {
     /// Whether the four vertices of the index are triples of the rules. Asks for labels below their count.
     pub fn is_admissible(&self, rules: &Rules) -> bool
-        requires { AreSixLabels rules.now.count self.now.a self.now.b self.now.c self.now.d self.now.e self.now.f }
-        ensures { result ≡ f_admissible (fuses rules.now) self.now.a self.now.b self.now.c self.now.d self.now.e self.now.f }
+        requires { AreSixLabels rules.now.count self.now.a self.now.b self.now.c self.now.d self.now.e
+            self.now.f }
+        ensures { result ≡ f_admissible (fuses rules.now) self.now.a self.now.b self.now.c self.now.d
+            self.now.e self.now.f }
     {
         rules.allows(self.a, self.b, self.e)
             && rules.allows(self.e, self.c, self.d)

@@ -24,3 +24,6 @@ mod values;
 pub use derived::Derived;
 pub use draft::{Draft, SetFault};
 pub use index::{FIndex, VIndex};
+
+#[cfg(test)]
+mod tests;

@@ -14,7 +14,8 @@ pub(crate) fn set_value<K: Ord + Drop, E: Drop>(
     key: K,
     value: E,
 ) -> Result<(), SetFault>
-    ensures told { Sets result (set_fault true (get K.cmp values.old key)) values.old.entries values.new.entries (insert_entry K.cmp values.old.entries key value) }
+    ensures told { Sets result (set_fault true (get K.cmp values.old key)) values.old.entries
+        values.new.entries (insert_entry K.cmp values.old.entries key value) }
     ensures updates { OnOk result (Updates K.cmp values.old values.new key (Some value)) }
 {
     if values.contains_key(&key) {

@@ -1,5 +1,4 @@
-use Rattle.std.proofs.Common.{◌≡◌, ◌+◌, ◌<◌, ◌≤◌, ◌^◌, ◌-◌, length, take, true, sym, arith, rules}
-use Rattle.std.specs.Str.Parse.{digits_value}
+use Rattle.std.proofs.Common.{◌+◌, arith}
 use Rattle.cyclo_text.proofs.DigitLemmas.{digit_in, value_more, value_least}
 use Rattle.cyclo_text.proofs.digits.magnitude.Goals as goal
 

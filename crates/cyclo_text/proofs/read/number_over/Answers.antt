@@ -1,15 +1,14 @@
-use Rattle.std.proofs.Common.{◌≡◌, ◌≤◌, ◌<◌, ℕ, length, true, false, ap, sym, ◌∙◌, subst, arith, rules, inl, inr}
-use Rattle.std.specs.Prelude.{ℤ, pos, map, IsTrue}
+use Rattle.std.proofs.Common.{◌≡◌, ◌≤◌, length, true, false, ap, sym, ◌∙◌, arith, rules}
+use Rattle.std.specs.Prelude.{pos}
 use Rattle.std.specs.Str.Parse.{digits_value}
 use Rattle.std.proofs.lemmas.Bool.Decides.{nat_tests}
-use mir.Val.{SFits, to_z, of_z}
+use mir.Val.{SFits}
 use mir.Syntax.{w128}
 use Rattle.poly_core.specs.Gcd.{totient}
-use Rattle.poly_core.specs.Table.{at, past_end}
 use Rattle.poly_core.proofs.RhoLemmas.{degree_small}
 use Rattle.cyclo_core.specs.Given.{number_of as given}
 use Rattle.cyclo_core.proofs.GivenLemmas.{bits_back}
-use Rattle.cyclo_text.specs.NumberWords.{comma, pieces, part_value}
+use Rattle.cyclo_text.specs.NumberWords.{comma, pieces}
 use Rattle.cyclo_text.proofs.DigitLemmas.{natural_digits}
 use Rattle.cyclo_text.proofs.ReadLemmas.{value_of-many, value_of-big, value_of-big_under, value_of-given}
 use Rattle.cyclo_text.proofs.read.number_over.Goals as goal

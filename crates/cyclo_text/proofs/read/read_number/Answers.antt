@@ -1,6 +1,5 @@
 use Rattle.std.proofs.Common.{◌≡◌, true, false, sym, ◌∙◌, arith, rules}
 use Rattle.std.proofs.lemmas.Bool.Decides.{nat_tests}
-use Rattle.cyclo_text.specs.NumberWords.{comma, pieces, is_natural, is_part}
 use Rattle.cyclo_text.proofs.ReadLemmas.{number_of-none, number_of-halves, number_over-parts, number_over-under, number_over-spelled}
 use Rattle.cyclo_text.proofs.read.read_number.Goals as goal
 

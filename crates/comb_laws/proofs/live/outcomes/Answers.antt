@@ -1,0 +1,26 @@
+use Rattle.std.proofs.Common.{◌≡◌, ◌<◌, arith}
+use Rattle.std.proofs.lemmas.Result.{err_from_is_err_and}
+use Rattle.symbol_table.specs.Symbols.{symbols_of}
+use Rattle.comb_laws.specs.Entries.{vector_of}
+use Rattle.comb_laws.specs.Evaluated.{projected_fits}
+use Rattle.comb_laws.specs.Lives.{lives_of}
+use Rattle.comb_laws.proofs.LiveLemmas.{outcomes_more, labels_pass, labels_fail}
+use Rattle.comb_laws.proofs.live.outcomes.Goals as goal
+
+pub returns-in_err-push_outcome-clause-too_large : goal.returns-in_err-push_outcome-clause-too_large
+returns-in_err-push_outcome-clause-too_large g c e =
+    let s = symbols_of (g.R.StarRing.ring (g.S.SymbolSource.base c.args.source.now)) g.R.StarRing.held (g.S.SymbolSource.given c.args.source.now) in
+    let p = err_from_is_err_and c.from_residual.result c.from_residual.ensures.1 in
+    let low : c.loop-q.q < (g.S.SymbolSource.given c.args.source.now).count = omega arith in
+    labels_fail (λ q. projected_fits s c.args.strands.now c.args.k q (vector_of s.ring c.args.vector.now)) s.count c.loop-q.q low
+    (c.in_err-push_outcome.ensures.too_large (rw (p.1, p.2) at e))
+
+pub loop-q-preserved : goal.loop-q-preserved
+loop-q-preserved g c =
+    let s = symbols_of (g.R.StarRing.ring (g.S.SymbolSource.base c.args.source.now)) g.R.StarRing.held (g.S.SymbolSource.given c.args.source.now) in
+    let v = vector_of s.ring c.args.vector.now in
+    record {
+      words = outcomes_more s c.args.strands.now c.args.k v c.loop-q.q (lives_of s.ring c.loop-q.words.items) (lives_of s.ring c.push_outcome.new.words.items) c.in_ok-push_outcome.ensures.words c.loop-q.invariant.words;
+      entries = c.in_ok-push_outcome.ensures.entries;
+      fits = labels_pass (λ q. projected_fits s c.args.strands.now c.args.k q v) c.loop-q.q c.in_ok-push_outcome.ensures.fits c.loop-q.invariant.fits;
+    }

@@ -1,0 +1,53 @@
+use crate::{DeriveFault, derive_draft};
+use fusion_rules::Rules;
+use ring_laws::{Int, Whole};
+use std::test::Fail;
+use symbol_table::{Draft, FIndex, VIndex};
+
+const AT: FIndex = FIndex {
+    a: 1,
+    b: 1,
+    c: 1,
+    d: 1,
+    e: 0,
+    f: 1,
+};
+
+fn int(x: i128) -> Result<Int, Fail> {
+    Ok(Int::new(x).ok_or("too large")?)
+}
+
+// Fibonacci rules over the whole numbers: H = 7 · 3 · 3 · 5 · 1 at one index, and S = 11 · 1 · 5.
+#[test]
+fn derived_by_hand(rt: HostRuntime) -> Result<(), Fail> {
+    let mut rules = Rules::new(2);
+    rules.allow(1, 1, 0)?;
+    rules.allow(1, 1, 1)?;
+    let mut draft = Draft::new(rt.alloc(), Whole, rules);
+    draft.set_f(AT, int(7)?)?;
+    draft.set_r(VIndex { a: 1, b: 1, c: 0 }, int(11)?)?;
+    draft.set_w(VIndex { a: 1, b: 1, c: 1 }, int(3)?)?;
+    draft.set_v(VIndex { a: 1, b: 1, c: 0 }, int(5)?)?;
+    let Ok(derived) = derive_draft(rt.alloc(), &draft) else {
+        return Err(Fail::from("no fault"));
+    };
+    assert_eq!(rt; derived.h_at(&draft, 1, 1, 1, 1, 1, 0).get(), 315);
+    assert_eq!(rt; derived.h_at(&draft, 0, 0, 0, 0, 0, 0).get(), 1);
+    assert_eq!(rt; derived.h_at(&draft, 0, 1, 1, 1, 1, 0).get(), 0);
+    assert_eq!(rt; derived.s_at(&draft, 1, 1, 0).get(), 55);
+    assert_eq!(rt; derived.s_at(&draft, 1, 0, 0).get(), 0);
+    Ok(())
+}
+
+// 2^100 times 2^40 doesn't fit, and stands at one index of H alone.
+#[test]
+fn too_large(rt: HostRuntime) -> Result<(), Fail> {
+    let mut rules = Rules::new(2);
+    rules.allow(1, 1, 0)?;
+    rules.allow(1, 1, 1)?;
+    let mut draft = Draft::new(rt.alloc(), Whole, rules);
+    draft.set_f(AT, int(1 << 100)?)?;
+    draft.set_w(VIndex { a: 1, b: 1, c: 1 }, int(1 << 40)?)?;
+    assert!(rt; matches!(derive_draft(rt.alloc(), &draft), Err(DeriveFault::H(AT))));
+    Ok(())
+}
