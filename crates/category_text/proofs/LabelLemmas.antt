@@ -1,6 +1,5 @@
 -- The names of a labels line.
-use Rattle.std.proofs.Common.{◌≡◌, ◌≢◌, ℕ, zero, suc, ◌+◌, ◌-◌, ◌<◌, ◌≤◌, List, [], ◌∷◌, ◌++◌, Bool, length, drop, get_or, refl, sym, ap, subst, ◌∙◌, arith, rules, true, false, ◌&&◌, ◌||◌, ◌==◌, ltb, not, if◌then◌else◌, Option, Some, None, Result, Ok, Err, append_assoc, codes}
-use Rattle.std.specs.List.{list_any}
+use Rattle.std.proofs.Common.{◌≡◌, ℕ, zero, suc, ◌+◌, ◌-◌, ◌<◌, ◌≤◌, List, [], ◌∷◌, ◌++◌, Bool, length, drop, refl, sym, ap, subst, ◌∙◌, arith, true, false, ◌&&◌, ◌||◌, ◌==◌, ltb, not, if◌then◌else◌, Option, Some, None, Ok, Err, append_assoc, codes}
 use Rattle.std.specs.Str.{bytes_eq}
 use Rattle.std.proofs.lemmas.Bool.Decides.{nat_tests}
 use Rattle.std.proofs.lemmas.List.{append-nil, length-append, drop_more, drop_all}
@@ -9,13 +8,13 @@ use Rattle.std.specs.Prelude.{slice_get}
 use Rattle.fusion_rules.specs.Names.{is_name, all_names, has_repeat, is_among, name_fault}
 use Rattle.fusion_rules.specs.declared.names.NameFault.{NameFault}
 use Rattle.fusion_rules.specs.declared.names.NameFault.TheVariants as name
-use Rattle.fusion_rules.proofs.NameLemmas.{repeat_push, among_push, eq_comm}
+use Rattle.fusion_rules.proofs.NameLemmas.{repeat_push, eq_comm}
 use Rattle.line_text.specs.Text.{has_word}
 use Rattle.category_text.specs.Reading.{names_in, labels_of}
 use Rattle.category_text.specs.Answers.{LineFails, add_to, kept, judged_of, kept_of}
 use Rattle.category_text.specs.declared.fault.Stop.{Stop}
 use Rattle.category_text.specs.declared.fault.Stop.TheVariants.{Cause, NoMemory}
-use Rattle.category_text.specs.declared.fault.CategoryCause.TheVariants.{Labels, Limit, Repeated}
+use Rattle.category_text.specs.declared.fault.CategoryCause.TheVariants.{Labels}
 
 -- what `add` says of a name
 module _ (names : List (List ℕ)) (word : List ℕ) where

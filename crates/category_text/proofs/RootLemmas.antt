@@ -2,7 +2,6 @@
 use Rattle.std.proofs.Common.{◌≡◌, ℕ, ◌<◌, Bool, true, false, ◌&&◌, ltb, refl, arith}
 use Rattle.std.specs.Prelude.{nat_le}
 use Rattle.std.proofs.lemmas.Bool.Decides.{nat_tests}
-use Rattle.poly_core.specs.Gcd.{totient}
 use Rattle.poly_core.specs.Rho.{is_accepted}
 
 pub large_root : (n : ℕ) → 60 < n → is_accepted n ≡ false

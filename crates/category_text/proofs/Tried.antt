@@ -1,10 +1,10 @@
 -- The definition, tried on small texts.
-use Rattle.std.proofs.Common.{◌≡◌, ℕ, List, [], ◌∷◌, true, false, refl, Result, Ok, Err, codes}
+use Rattle.std.proofs.Common.{◌≡◌, [], ◌∷◌, refl, Result, Ok, Err, codes}
 use Rattle.poly_core.specs.Rho.{is_accepted}
 use Rattle.poly_core.specs.Gcd.{totient, gcd}
 use Rattle.cyclo_text.specs.NumberWords.{number_of, halves_of, number_over, is_part, is_natural}
 use Rattle.cyclo_text.specs.declared.fault.NumberWord.TheVariants.{Spelling}
-use Rattle.category_text.specs.declared.fault.CategoryCause.TheVariants.{Header, Root, Labels, Limit, Repeated, Misplaced, Word, Short, Long, UnknownLabel, UnitFuse, NotAdmissible, Number}
+use Rattle.category_text.specs.declared.fault.CategoryCause.TheVariants.{Header, Root, Labels, Limit, Repeated, Short, UnitFuse, NotAdmissible, Number}
 use Rattle.category_text.specs.Named.{NamedSymbols, only_units, with_fusion}
 use Rattle.category_text.specs.Reading.{Fault, category_of, head_of, line_of, fuse_of, symbol_of}
 

@@ -1,11 +1,11 @@
 -- From the head and the body to the whole text.
-use Rattle.std.proofs.Common.{◌≡◌, ℕ, List, length, false, sym, ap, ◌∙◌, Result, Ok, Err}
+use Rattle.std.proofs.Common.{◌≡◌, ℕ, List, length, false, sym, ap, ◌∙◌, Result, Ok}
 use Rattle.line_text.specs.Text.{Found, reading_of}
 use Rattle.fusion_rules.specs.Fusion.{Fusion, fuses, unit_fuses}
 use Rattle.category_text.specs.declared.body.Body.TheVariants.{Fusing}
 use Rattle.category_text.specs.declared.fault.CategoryFault.{CategoryFault}
 use Rattle.category_text.specs.declared.fault.CategoryFault.TheVariants.{At, Memory}
-use Rattle.category_text.specs.Named.{NamedSymbols, only_units}
+use Rattle.category_text.specs.Named.{only_units}
 use Rattle.symbol_table.specs.Symbols.{Given}
 use Rattle.cyclo_core.specs.Ratio.{Ratio}
 use Rattle.category_text.specs.Reading.{◌>>=◌, Fault, SoFar, head_of, body_of, begun, category_of}

@@ -1,5 +1,5 @@
 -- What functions of the code answer: what is stated, unless memory runs out.
-use Rattle.std.specs.Prelude.{◌≡◌, ◌<◌, ℕ, ◌+◌, List, [], ◌∷◌, ◌++◌, Bool, true, false, ◌==◌, nat_lt, length, if◌then◌else◌, Option, Some, None, Result, Ok, Err}
+use Rattle.std.specs.Prelude.{◌≡◌, ℕ, List, [], ◌∷◌, ◌++◌, Bool, true, false, ◌==◌, nat_lt, length, if◌then◌else◌, Option, Some, None, Result, Ok, Err}
 use Rattle.fusion_rules.specs.Fusion.{Fusion, fuses}
 use Rattle.fusion_rules.specs.Names.{is_among, is_name}
 use Rattle.symbol_table.specs.Symbols.{Given}

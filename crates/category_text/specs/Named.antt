@@ -1,5 +1,5 @@
 -- What a category text says.
-use Rattle.std.specs.Prelude.{ℕ, List, ◌||◌, length, Option, Some, None, if◌then◌else◌}
+use Rattle.std.specs.Prelude.{ℕ, List, ◌||◌, Option, Some, None, if◌then◌else◌}
 use Rattle.cyclo_core.specs.Ratio.{Ratio}
 use Rattle.fusion_rules.specs.Fusion.{is_triple, unit_fuses}
 use Rattle.symbol_table.specs.Symbols.{Given}

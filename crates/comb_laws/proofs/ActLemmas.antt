@@ -1,9 +1,9 @@
 -- What a step of the engine leaves: the entries of the operator's vector.
-use Rattle.std.proofs.Common.{◌≡◌, ℕ, ◌+◌, ◌<◌, Bool, true, false, List, length, Option, Some, None, refl, ap, sym, ◌∙◌}
+use Rattle.std.proofs.Common.{◌≡◌, ℕ, ◌<◌, Bool, true, false, List, length, Some, None, refl, ap, sym, ◌∙◌}
 use Rattle.std.specs.Prelude.{is_some, if◌then◌else◌, IsTrue}
 use Rattle.std.specs.Map.{keys_of}
 use Rattle.arrayvec.specs.ArrayVec.{ArrayVec}
-use Rattle.ring_laws.specs.Ring.{Ring, Held, RingLaws}
+use Rattle.ring_laws.specs.Ring.{Held, RingLaws}
 use Rattle.ring_laws.specs.Sums.{total}
 use Rattle.ring_laws.specs.Stated.{steps}
 use Rattle.ring_laws.proofs.SumLemmas.{total_is}
@@ -55,6 +55,7 @@ module _ {E : Type 0} (c : Symbols E) (laws : RingLaws c.ring c.held) (strands a
       where
         P : Vector E
         P = acted c strands after k kernel (vector_of c.ring es)
+
         there : (x : Path) (v : E) → entry_at new x ≡ Some v → (b : Bool) → is_path c after x ≡ b → is_path c after x ≡ true
         there x v is true on = on
         there x v is false off =

@@ -3,8 +3,7 @@ use Rattle.std.proofs.Common.{◌≡◌, ℕ, zero, suc, ◌+◌, ◌<◌, ◌�
 use mathlib.Core.Path.{fun_ext}
 use Rattle.std.specs.Prelude.{is_some, if◌then◌else◌, ◌&&◌, ◌==◌, nat_lt, IsTrue}
 use Rattle.std.specs.Str.{bytes_eq}
-use Rattle.std.specs.Bool.{Decides}
-use Rattle.std.specs.List.{list_any, flat_map, range_with_len, AllByRecursion, All}
+use Rattle.std.specs.List.{range_with_len, AllByRecursion, All}
 use Rattle.std.proofs.lemmas.List.{set-set, set-get_or, take_more, map-append, length-set}
 use Rattle.std.proofs.lemmas.List.Elements.{All-set, All-from_recursion}
 use Rattle.std.proofs.lemmas.List.Folds.{list_any-append}
@@ -20,7 +19,7 @@ use Rattle.symbol_table.specs.Symbols.{Symbols}
 use Rattle.comb_laws.specs.Operators.{Kernel, term_at, acted}
 use Rattle.comb_laws.specs.Evaluated.{KernelAt, acted_step, acted_at}
 use Rattle.comb_laws.specs.Paths.{Path, Vector, goes_on, is_path}
-use Rattle.comb_laws.specs.Entries.{row_from, entry_at, vector_of, kept_of, among, row_of, targets_of, items_of, gathered, IsAlong, AreMembers, AreEntries}
+use Rattle.comb_laws.specs.Entries.{row_from, entry_at, vector_of, kept_of, among, row_of, targets_of, items_of, gathered, IsAlong, AreMembers}
 
 pub same_path : (a x : Path) → bytes_eq a x ≡ true → a ≡ x
 same_path a x = (bytes_eq-Decides a x).0

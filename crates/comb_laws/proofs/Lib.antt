@@ -1,6 +1,7 @@
 mod Fib
 mod Worked
 pub mod ActLemmas
+pub mod CombLemmas
 pub mod EntryLemmas
 pub mod Gather
 pub mod LiveLemmas

@@ -1,20 +1,18 @@
 -- Live words and their rows.
-use Rattle.std.proofs.Common.{◌≡◌, ℕ, zero, suc, ◌+◌, ◌-◌, ◌<◌, Bool, true, false, not, List, [], ◌∷◌, ◌++◌, map, length, get_or, drop, Option, Some, None, refl, ap, sym, ◌∙◌, subst, append_assoc, arith, inl, inr}
+use Rattle.std.proofs.Common.{◌≡◌, ℕ, zero, suc, ◌+◌, ◌<◌, Bool, true, false, not, List, [], ◌∷◌, ◌++◌, map, Some, refl, ap, sym, ◌∙◌, arith, inl, inr}
 use Rattle.std.specs.Prelude.{if◌then◌else◌, ◌&&◌, IsTrue, Result, Err}
-use Rattle.std.specs.Str.{bytes_eq}
 use Rattle.std.specs.List.{list_all, filter}
-use Rattle.std.proofs.lemmas.List.{map-append, append-nil, at_drop_more, at_drop_all}
+use Rattle.std.proofs.lemmas.List.{map-append, append-nil}
 use Rattle.std.proofs.lemmas.List.Folds.{list_all-append}
 use Rattle.std.proofs.lemmas.Bool.Decides.{leb_tells}
 use Rattle.std.proofs.lemmas.Slice.Eq.{bytes_eq-Decides}
 use Rattle.arrayvec.specs.ArrayVec.{ArrayVec}
-use Rattle.ring_laws.specs.Ring.{Ring, Held, RingLaws}
-use Rattle.ring_laws.specs.Stated.{◌>>=◌}
+use Rattle.ring_laws.specs.Ring.{RingLaws}
 use Rattle.symbol_table.specs.Symbols.{Symbols}
 use Rattle.comb_laws.specs.Paths.{Path, Vector, labels, paths}
 use Rattle.comb_laws.specs.Operators.{projected}
 use Rattle.comb_laws.specs.Entries.{entry_at, vector_of, AreEntries}
-use Rattle.comb_laws.specs.Evaluated.{Live, projected_fits, is_nought, outcomes_at, weight_at, rows_at}
+use Rattle.comb_laws.specs.Evaluated.{Live, is_nought}
 use Rattle.comb_laws.specs.Lives.{live_of, lives_of, rows_of}
 use Rattle.comb_laws.specs.declared.live.Word.{Word}
 use Rattle.comb_laws.specs.declared.rows.Row.{Row}

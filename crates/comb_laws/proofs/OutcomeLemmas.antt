@@ -1,26 +1,25 @@
 -- What the stated evaluation of a run gives is the total and the rows of the definitions.
-use Rattle.std.proofs.Common.{◌≡◌, ℕ, zero, suc, ◌+◌, Bool, true, false, not, List, [], ◌∷◌, ◌++◌, map, length, Option, Some, None, refl, ap, sym, ◌∙◌, append_assoc}
-use Rattle.std.specs.Prelude.{if◌then◌else◌, ◌&&◌, IsTrue, Result, Ok, Err}
+use Rattle.std.proofs.Common.{◌≡◌, ℕ, ◌+◌, Bool, true, false, not, List, [], ◌∷◌, ◌++◌, map, Option, Some, None, refl, ap, sym, ◌∙◌, append_assoc}
+use Rattle.std.specs.Prelude.{if◌then◌else◌, IsTrue, Result, Ok, Err}
 use Rattle.std.specs.Str.{bytes_eq}
-use Rattle.std.specs.List.{list_all, filter, flat_map}
+use Rattle.std.specs.List.{list_all, filter}
 use Rattle.std.proofs.lemmas.List.{append-nil}
 use Rattle.std.proofs.lemmas.List.Concat.{flat_map_single}
-use Rattle.ring_laws.specs.Ring.{Ring, Held, RingLaws}
+use Rattle.ring_laws.specs.Ring.{Ring, RingLaws}
 use Rattle.ring_laws.specs.Sums.{sum_over}
 use Rattle.ring_laws.specs.Stated.{◌>>=◌, product_at, sum_at, conjugate_at, steps_over}
 use Rattle.ring_laws.proofs.SumLemmas.{zero-product, zero-sum, sum_over_is}
 use Rattle.ring_laws.proofs.StatedLemmas.{some_inj, bind_some, sum_given, product_given, conjugate_given, steps_over_total}
 use Rattle.symbol_table.specs.Symbols.{Symbols}
 use Rattle.tree_shapes.specs.Labelled.{Labelled, leaves}
-use Rattle.program_text.specs.declared.plan.Sign.{Sign}
 use Rattle.program_text.specs.declared.plan.Command.{Command}
 use Rattle.program_text.specs.declared.plan.Command.TheVariants.{Braid, Raise, Measure}
 use Rattle.program_text.specs.Form.{is_gap, is_measured_braid}
 use Rattle.comb_laws.specs.Paths.{Path, Vector, labels, paths}
-use Rattle.comb_laws.specs.Operators.{swapped, braided, projected, weights_along, path_weight, weight, braid_kernel, charge_kernel}
+use Rattle.comb_laws.specs.Operators.{swapped, braided, projected, weights_along, path_weight, weight, charge_kernel}
 use Rattle.comb_laws.specs.Amplitudes.{own_path, own_vector}
-use Rattle.comb_laws.specs.Plans.{Outcomes, words, word_weight, rows_from, outcomes_of}
-use Rattle.comb_laws.specs.Evaluated.{Live, braided_fits, projected_fits, weights_along_at, path_weight_at, weight_term_at, weight_step, weight_at, is_nought, outcomes_at, row_step, rows_at, run_from, at_turn, ◌>>>◌, rest_of, one_word, evaluation_of}
+use Rattle.comb_laws.specs.Plans.{Outcomes, word_weight, rows_from, outcomes_of}
+use Rattle.comb_laws.specs.Evaluated.{braided_fits, weights_along_at, path_weight_at, weight_term_at, weight_step, weight_at, is_nought, outcomes_at, row_step, rows_at, at_turn, ◌>>>◌, rest_of, one_word, evaluation_of}
 use Rattle.comb_laws.proofs.Gather.{and_true}
 use Rattle.comb_laws.proofs.ActLemmas.{acted_is}
 use Rattle.comb_laws.proofs.LiveLemmas.{outcome}

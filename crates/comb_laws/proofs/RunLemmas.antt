@@ -1,8 +1,8 @@
 -- One turn of a run.
-use Rattle.std.proofs.Common.{◌≡◌, ℕ, suc, ◌+◌, ◌<◌, ◌≤◌, Bool, true, false, List, [], ◌∷◌, ◌++◌, map, length, get_or, drop, Option, Some, None, refl, ap, sym, ◌∙◌, arith}
-use Rattle.std.specs.Prelude.{if◌then◌else◌, ◌&&◌, Result, Ok, Err, nat_lt}
+use Rattle.std.proofs.Common.{◌≡◌, ℕ, suc, ◌+◌, ◌<◌, Bool, true, false, List, [], ◌∷◌, length, Some, None, refl, ap, sym, ◌∙◌, arith}
+use Rattle.std.specs.Prelude.{◌&&◌, Ok, Err, nat_lt}
 use Rattle.std.specs.List.{list_all}
-use Rattle.std.proofs.lemmas.List.{append-nil, at_drop_more}
+use Rattle.std.proofs.lemmas.List.{append-nil}
 use Rattle.std.proofs.lemmas.Bool.Decides.{nat_tests}
 use Rattle.symbol_table.specs.Symbols.{Symbols}
 use Rattle.program_text.specs.declared.plan.Sign.{Sign}
@@ -11,7 +11,7 @@ use Rattle.program_text.specs.declared.plan.Command.TheVariants.{Braid, Raise, M
 use Rattle.program_text.specs.Form.{is_gap, is_measured_braid}
 use Rattle.comb_laws.specs.Paths.{Vector, labels}
 use Rattle.comb_laws.specs.Operators.{swapped, braided}
-use Rattle.comb_laws.specs.Evaluated.{Live, braided_fits, projected_fits, outcomes_at, rows_at, run_from, at_turn, ◌>>>◌, rest_of, one_word}
+use Rattle.comb_laws.specs.Evaluated.{Live, braided_fits, projected_fits, outcomes_at, rows_at, at_turn, rest_of, one_word}
 use Rattle.comb_laws.proofs.Gather.{and_true}
 
 and_one : (b d : Bool) → b ≡ d → (b && true) ≡ d

@@ -1,13 +1,13 @@
 -- A left-combed start: its strands, and the path of its own labels.
-use Rattle.std.proofs.Common.{◌≡◌, ℕ, suc, ◌+◌, ◌<◌, ◌≤◌, Bool, true, false, List, [], ◌∷◌, ◌++◌, length, refl, ap, sym, ◌∙◌, arith, length-append}
-use Rattle.std.specs.Prelude.{◌&&◌, ◌==◌, nat_lt, nat_le, All}
+use Rattle.std.proofs.Common.{◌≡◌, ℕ, ◌+◌, ◌<◌, ◌≤◌, Bool, true, List, [], ◌∷◌, ◌++◌, length, refl, ap, ◌∙◌, arith, length-append}
+use Rattle.std.specs.Prelude.{◌&&◌, nat_lt, nat_le, All}
 use Rattle.std.specs.List.{AllByRecursion}
 use Rattle.std.proofs.lemmas.List.Elements.{All-from_recursion}
 use Rattle.std.proofs.lemmas.Bool.Decides.{nat_tests}
 use Rattle.symbol_table.specs.Symbols.{Symbols}
 use Rattle.tree_shapes.specs.Labelled.{Labelled, Strand, Joined, label, leaves, size, is_strand, is_left_comb, is_admissible}
 use Rattle.program_text.specs.Form.{labels_below, is_comb_start}
-use Rattle.comb_laws.specs.Paths.{Path, goes_on, is_path}
+use Rattle.comb_laws.specs.Paths.{goes_on, is_path}
 use Rattle.comb_laws.specs.Amplitudes.{own_path}
 use Rattle.comb_laws.proofs.Gather.{and_true}
 

@@ -1,15 +1,15 @@
 -- What a stated evaluation gives is the value of the definition.
-use Rattle.std.proofs.Common.{◌≡◌, ℕ, suc, ◌+◌, ◌-◌, Bool, true, false, Option, Some, None, List, [], ◌∷◌, refl, ap, sym, ◌∙◌, slice_index, slice_set, ◌⊎◌, inl, inr}
+use Rattle.std.proofs.Common.{◌≡◌, ℕ, ◌+◌, ◌-◌, Bool, true, false, Option, Some, List, refl, ap, sym, ◌∙◌, slice_index, slice_set, ◌⊎◌, inl, inr}
 use Rattle.std.specs.Prelude.{if◌then◌else◌, ◌&&◌, IsTrue}
 use Rattle.ring_laws.specs.Ring.{Ring, Held, RingLaws}
 use Rattle.ring_laws.specs.Sums.{total}
-use Rattle.ring_laws.specs.Stated.{◌>>=◌, product_at, sum_at, conjugate_at, steps}
+use Rattle.ring_laws.specs.Stated.{◌>>=◌, product_at, sum_at, steps}
 use Rattle.ring_laws.proofs.SumLemmas.{zero-product}
-use Rattle.ring_laws.proofs.StatedLemmas.{some_inj, bind_some, sum_given, product_given, conjugate_given, steps_all}
+use Rattle.ring_laws.proofs.StatedLemmas.{some_inj, bind_some, sum_given, product_given, steps_all}
 use Rattle.symbol_table.specs.Symbols.{Symbols, Given, symbols_of, f_admissible}
 use Rattle.comb_laws.specs.Paths.{Path, Vector, is_path}
-use Rattle.comb_laws.specs.Operators.{Kernel, strand, exchange_by, braid_kernel, charge_kernel, term_at, acted}
-use Rattle.comb_laws.specs.Evaluated.{KernelAt, braid_term_at, braid_step, braid_kernel_at, charge_kernel_at, term_added_at, acted_step, acted_at}
+use Rattle.comb_laws.specs.Operators.{strand, exchange_by, braid_kernel, term_at, acted}
+use Rattle.comb_laws.specs.Evaluated.{braid_term_at, braid_step, braid_kernel_at, term_added_at, acted_step, acted_at}
 use Rattle.comb_laws.specs.Operations.{kernel_of, kernel_at}
 use Rattle.comb_laws.specs.declared.kernel.Operator.{Operator}
 use Rattle.comb_laws.specs.declared.kernel.Operator.TheVariants.{Exchange, Project}

@@ -12,7 +12,7 @@ use Rattle.std.specs.Cmp.Lexicographic.{slice_cmp}
 use Rattle.std.proofs.lemmas.Slice.Eq.{bytes_eq-Decides}
 use Rattle.std.proofs.lemmas.List.Elements.{recursion_from_All}
 use Rattle.arrayvec.specs.ArrayVec.{ArrayVec}
-use Rattle.ring_laws.specs.Ring.{Ring, Held, RingLaws}
+use Rattle.ring_laws.specs.Ring.{RingLaws}
 use Rattle.ring_laws.specs.Stated.{◌>>=◌, steps_over}
 use Rattle.symbol_table.specs.Symbols.{Symbols}
 use Rattle.comb_laws.specs.Paths.{Path, Vector, paths, is_path}

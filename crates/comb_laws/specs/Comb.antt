@@ -1,5 +1,5 @@
 -- What a comb run answers of a plan.
-use Rattle.std.specs.Prelude.{ℕ, List}
+use Rattle.std.specs.Prelude.{List}
 use Rattle.std.specs.List.{flat_map}
 use Rattle.program_text.specs.Program.{Program}
 use Rattle.program_text.specs.declared.plan.Command.{Command}

@@ -12,11 +12,11 @@ ghost use Rattle.comb_laws.specs.Evaluated.{acted_step, acted_at as spec_acted_a
 ghost use Rattle.comb_laws.specs.Operations.{kernel_of, kernel_at, charge_below, IsGap};
 
 use crate::fault::StepFault;
-use crate::kernel::{kernel, Operator, Place};
+use crate::kernel::{Operator, Place, kernel};
 use crate::source::SymbolSource;
 use crate::terms::term_added;
-use crate::vector::{copy_of, value_at, with_label, CombVector, Path};
-use ring_laws::{is_zero, Overflow, StarRing};
+use crate::vector::{CombVector, Path, copy_of, value_at, with_label};
+use ring_laws::{Overflow, StarRing, is_zero};
 use std::alloc::{AllocError, Global};
 
 /// Whether these labels, after p, go along the strands.
@@ -72,7 +72,12 @@ fn acted_term<R: StarRing, S: SymbolSource<R>>(
         return Ok(source.ring().copy(sum));
     }
     let labels = path.as_slice();
-    let place = Place { p: labels[k - 1], a: strands[k - 1], b: strands[k], y: labels[k + 1] };
+    let place = Place {
+        p: labels[k - 1],
+        a: strands[k - 1],
+        b: strands[k],
+        y: labels[k + 1],
+    };
     let by = kernel(source, operator, &place, t, labels[k])?;
     term_added(source.ring(), &by, &old, sum)
 }
@@ -186,5 +191,14 @@ pub(crate) fn act<R: StarRing, S: SymbolSource<R>>(
         IsErrOf result StepFault.TooLarge → acted_fits c strands.now after.now k (kernel_at c operator) (vector_of c.ring vector.now) ≡ false }
 {
     let targets = vector.targets(alloc, k, source.count())?;
-    gather(alloc, source, strands, after, k, operator, vector, targets.as_slice())
+    gather(
+        alloc,
+        source,
+        strands,
+        after,
+        k,
+        operator,
+        vector,
+        targets.as_slice(),
+    )
 }

@@ -80,8 +80,22 @@ fn braid_step_at<R: StarRing, S: SymbolSource<R>>(
     ensures member { IfOk result (λ z. IsTrue ((R.ring (S.base source.now)).member z)) }
 {
     let Place { p, a, b, y } = *place;
-    let before = FIndex { a: p, b: a, c: b, d: y, e: t, f: q };
-    let after = FIndex { a: p, b, c: a, d: y, e: u, f: q };
+    let before = FIndex {
+        a: p,
+        b: a,
+        c: b,
+        d: y,
+        e: t,
+        f: q,
+    };
+    let after = FIndex {
+        a: p,
+        b,
+        c: a,
+        d: y,
+        e: u,
+        f: q,
+    };
     if !is_admissible(source, &before) {
         return Ok(source.ring().copy(sum));
     }
@@ -140,8 +154,22 @@ fn charge_kernel<R: StarRing, S: SymbolSource<R>>(
     ensures member { IfOk result (λ z. IsTrue ((R.ring (S.base source.now)).member z)) }
 {
     let Place { p, a, b, y } = *place;
-    let over = FIndex { a: p, b: a, c: b, d: y, e: t, f: q };
-    let back = FIndex { a: p, b: a, c: b, d: y, e: u, f: q };
+    let over = FIndex {
+        a: p,
+        b: a,
+        c: b,
+        d: y,
+        e: t,
+        f: q,
+    };
+    let back = FIndex {
+        a: p,
+        b: a,
+        c: b,
+        d: y,
+        e: u,
+        f: q,
+    };
     if !is_admissible(source, &over) {
         return Ok(source.ring().zero());
     }

@@ -24,4 +24,5 @@ mod terms;
 mod vector;
 mod weigh;
 
+pub use comb::comb_draft;
 pub use rows::{Row, Rows, RunFault};

@@ -13,10 +13,10 @@ ghost use Rattle.comb_laws.specs.Lives.{live_of, lives_of, rows_of};
 use crate::act::act;
 use crate::fault::StepFault;
 use crate::kernel::Operator;
+use crate::rows::Row;
 use crate::source::SymbolSource;
 use crate::vector::CombVector;
-use crate::rows::Row;
-use ring_laws::{is_zero, StarRing};
+use ring_laws::{StarRing, is_zero};
 use std::alloc::{AllocError, Global};
 
 /// A live word: the outcomes so far, and its vector.
@@ -67,12 +67,26 @@ fn push_outcome<R: StarRing, S: SymbolSource<R>>(
     ensures too_large { let c = symbols_of (R.ring (S.base source.now)) R.held (S.given source.now) in
         IsErrOf result StepFault.TooLarge → projected_fits c strands.now k q (vector_of c.ring vector.now) ≡ false }
 {
-    let projected = act(alloc, source, strands, strands, k, Operator::Project(q), vector)?;
+    let projected = act(
+        alloc,
+        source,
+        strands,
+        strands,
+        k,
+        Operator::Project(q),
+        vector,
+    )?;
     if projected.is_empty() {
         return Ok(());
     }
     let word = one_label(alloc, q)?;
-    push_word(words, Word { word, vector: projected })?;
+    push_word(
+        words,
+        Word {
+            word,
+            vector: projected,
+        },
+    )?;
     Ok(())
 }
 

@@ -56,6 +56,7 @@ pub(crate) trait SymbolSource<R: StarRing> {
 }
 
 /// The symbols of a draft, with those derived from it.
+#[derive(Drop)]
 pub(crate) struct DraftSymbols<'a, R: StarRing> {
     pub(crate) draft: &'a Draft<R>,
     pub(crate) derived: &'a Derived<R>,

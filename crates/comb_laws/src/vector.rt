@@ -71,7 +71,12 @@ impl<R: StarRing> CombVector<R> {
     }
 
     /// The paths that agree with one of this vector's at all places but k, with each label there.
-    pub(crate) fn targets(&self, alloc: Global, k: usize, count: u8) -> Result<Vec<Path>, AllocError>
+    pub(crate) fn targets(
+        &self,
+        alloc: Global,
+        k: usize,
+        count: u8,
+    ) -> Result<Vec<Path>, AllocError>
         requires { (x : List ℕ) (v : R.Elem) → entry_at self.now x ≡ Some v → k < length x }
         ensures { IfOk result (λ paths. items_of paths.items ≡ targets_of count k (keys_of self.now)) }
     {
@@ -83,7 +88,11 @@ impl<R: StarRing> CombVector<R> {
     }
 
     /// The weight over these strands, by prefix sums over the paths in their order.
-    pub(crate) fn weight<S: SymbolSource<R>>(&self, source: &S, strands: &[u8]) -> Result<R::Elem, Overflow>
+    pub(crate) fn weight<S: SymbolSource<R>>(
+        &self,
+        source: &S,
+        strands: &[u8],
+    ) -> Result<R::Elem, Overflow>
         requires { AreEntries (symbols_of (R.ring (S.base source.now)) R.held (S.given source.now)) strands.now self.now }
         ensures value { let c = symbols_of (R.ring (S.base source.now)) R.held (S.given source.now) in
             Gives result (weight_at c strands.now (vector_of c.ring self.now)) }

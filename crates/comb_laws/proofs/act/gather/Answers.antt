@@ -1,9 +1,9 @@
-use Rattle.std.proofs.Common.{arith, ◌≡◌, ℕ, List, ◌++◌, ◌+◌, [], ◌∷◌, take, Some, ap}
+use Rattle.std.proofs.Common.{arith, ◌≡◌, ◌++◌, ◌+◌, [], ◌∷◌, take, Some}
 use Rattle.symbol_table.specs.Symbols.{symbols_of}
 use Rattle.comb_laws.specs.Operators.{acted}
 use Rattle.comb_laws.specs.Operations.{kernel_of, kernel_at}
 use Rattle.comb_laws.specs.Evaluated.{acted_at}
-use Rattle.comb_laws.specs.Entries.{vector_of, items_of, entry_at, among}
+use Rattle.comb_laws.specs.Entries.{vector_of, items_of, entry_at}
 use Rattle.comb_laws.proofs.Gather.{gathered_step, items_more, fits_step, among_item, vector_members}
 use Rattle.comb_laws.proofs.Values.{acted_value}
 use Rattle.comb_laws.proofs.act.gather.Goals as goal

@@ -1,10 +1,9 @@
-use Rattle.std.proofs.Common.{◌≡◌, ◌∙◌, ◌<◌, ◌≤◌, ◌+◌, ◌++◌, ℕ, List, length, ap, sym, subst, arith, true}
+use Rattle.std.proofs.Common.{◌≡◌, ◌∙◌, ◌<◌, ◌≤◌, ◌++◌, ℕ, List, length, ap, sym, subst, arith}
 use Rattle.std.specs.Prelude.{All}
 use Rattle.symbol_table.specs.Symbols.{symbols_of}
 use Rattle.tree_shapes.specs.Views.{labelled}
 use Rattle.tree_shapes.specs.Labelled.{leaves, size}
 use Rattle.program_text.specs.Form.{is_measured_braid}
-use Rattle.comb_laws.specs.Amplitudes.{own_path}
 use Rattle.comb_laws.proofs.StartLemmas.{length-leaves, comb_start, leaves_below, length-own, own_is_path}
 use Rattle.comb_laws.proofs.comb.comb_rows.Goals as goal
 

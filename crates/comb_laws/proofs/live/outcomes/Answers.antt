@@ -1,4 +1,4 @@
-use Rattle.std.proofs.Common.{◌≡◌, ◌<◌, ◌∙◌, ap, Err, arith}
+use Rattle.std.proofs.Common.{◌<◌, ◌∙◌, ap, Err, arith}
 use Rattle.std.proofs.lemmas.Result.{err_from_is_err_and}
 use Rattle.symbol_table.specs.Symbols.{symbols_of}
 use Rattle.comb_laws.specs.Entries.{vector_of}

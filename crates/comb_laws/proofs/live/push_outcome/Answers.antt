@@ -1,5 +1,3 @@
-use Rattle.std.proofs.Common.{◌≡◌, List, ◌++◌, [], ◌∷◌, sym}
-use Rattle.std.specs.Prelude.{All, false, ◌↔◌, IsTrue}
 use Rattle.std.proofs.lemmas.List.Elements.{All-push}
 use Rattle.symbol_table.specs.Symbols.{symbols_of}
 use Rattle.comb_laws.specs.Operators.{projected}

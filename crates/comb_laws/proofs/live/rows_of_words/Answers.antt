@@ -1,4 +1,4 @@
-use Rattle.std.proofs.Common.{◌≡◌, arith}
+use Rattle.std.proofs.Common.{arith}
 use Rattle.std.proofs.lemmas.List.Elements.{All-get_or}
 use Rattle.symbol_table.specs.Symbols.{symbols_of}
 use Rattle.comb_laws.specs.Entries.{AreEntries}

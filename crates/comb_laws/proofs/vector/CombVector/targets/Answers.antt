@@ -1,7 +1,5 @@
 use Rattle.std.proofs.Common.{◌≡◌, ◌<◌, ◌∙◌, length, ap}
 use Rattle.std.specs.Map.{keys_of}
-use Rattle.arrayvec.specs.ArrayVec.{ArrayVec}
-use Rattle.comb_laws.specs.Entries.{items_of, targets_of}
 use Rattle.comb_laws.proofs.EntryLemmas.{keys_hold, targets_one, targets_none}
 use Rattle.comb_laws.proofs.vector.CombVector.targets.Goals as goal
 

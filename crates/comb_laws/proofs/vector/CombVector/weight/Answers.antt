@@ -4,7 +4,7 @@ use Rattle.arrayvec.specs.ArrayVec.{ArrayVec}
 use Rattle.symbol_table.specs.Symbols.{symbols_of}
 use Rattle.comb_laws.specs.Entries.{vector_of}
 use Rattle.comb_laws.specs.Evaluated.{weight_at}
-use Rattle.comb_laws.proofs.WeightLemmas.{IsMap, entry_step, begun, begun_entries, told_one, told_none, told_end}
+use Rattle.comb_laws.proofs.WeightLemmas.{IsMap, entry_step, begun, begun_entries, told_one}
 use Rattle.comb_laws.proofs.vector.CombVector.weight.Goals as goal
 
 pub loop-path-init : goal.loop-path-init
