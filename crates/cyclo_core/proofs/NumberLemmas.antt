@@ -3,7 +3,8 @@ use Rattle.std.proofs.Common.{◌≡◌, ℕ, zero, suc, ◌+◌, ◌*◌, ◌-�
 use Rattle.std.specs.Prelude.{ℤ, pos, ◌+ℤ◌, ◌*ℤ◌, neg_ℤ, unsigned_abs, IsTrue, ◌↔◌, nat_le, nat_eq, Result, Ok, Err, IsOk, IsErr}
 use Rattle.std.proofs.lemmas.Int.{ints}
 use Rattle.std.proofs.lemmas.Bool.{cases_lt}
-use native.Mathlib.Nat.{zero-div, mul-div_cancel'}
+use native.Mathlib.Nat.{zero-div, mul-div_cancel', dvd-mul_right}
+use Prim.Native.Nat.{◌∣◌}
 use Rattle.ring_laws.specs.IntLaws.{mul_assoc, mul-add, mul_comm}
 use Rattle.poly_core.specs.Combination.{Sequence, pointwise}
 use Rattle.poly_core.specs.Companion.{IsBelow}
@@ -11,7 +12,7 @@ use Rattle.poly_core.specs.Gcd.{gcd, IsGcd-gcd}
 use Rattle.poly_core.specs.Rho.{degree, order}
 use Rattle.poly_core.specs.Table.{at, all_below, all_below_at, both, past_end}
 use Rattle.poly_core.proofs.PowerLemmas.{rho_past}
-use Rattle.cyclo_core.specs.Content.{content, quotient, content-divides-first}
+use Rattle.cyclo_core.specs.Content.{content, quotient, quotient-back, content-divides-first}
 use Rattle.cyclo_core.specs.CycloLaws.{in_front, behind, at-tabulate, tabulate-nought, same_number, le_of, test_of, and_true, same_ratio_is}
 use Rattle.cyclo_core.specs.Fraction.{IsProper, common-reduce, common_pos, reduce-scale, positive_of, product_pos}
 use Rattle.cyclo_core.specs.Layers.{ratio}
@@ -270,3 +271,33 @@ ratio_same xs ys d e p q = λ t. record { numerators = p t; denominator = q t }
 
 pub same_ratios : (xs ys : List ℤ) (d e : ℕ) → (xs ≡ ys) → IsTrue (nat_eq d e) ↔ ◌≡◌ {A = Ratio} (record { numerators = xs; denominator = d }) (record { numerators = ys; denominator = e })
 same_ratios xs ys d e p = (λ h. ratio_same xs ys d e p ((same_number d e).0 h), λ q. (same_number d e).1 (ap (λ (v : Ratio). v.denominator) q))
+
+-- over 1 there is nothing to cancel
+quotient-one : (z : ℤ) → quotient 1 z ≡ z
+quotient-one z =
+    let once : pos 1 *ℤ quotient 1 z ≡ quotient 1 z = omega (arith, ints) in
+    sym once ∙ quotient-back 1 z (one_divides (unsigned_abs z))
+  where
+    one_divides : (m : ℕ) → 1 ∣ m
+    one_divides m = subst (λ k. 1 ∣ k) (let e : 1 * m ≡ m = omega arith in e) (dvd-mul_right 1 m)
+
+pub reduced_over_one : (xs : List ℤ) → length xs ≡ 16 → ◌≡◌ {A = Ratio} (record { numerators = xs; denominator = 1 }) (reduced (at xs) 1)
+unfolding reduced
+reduced_over_one xs full =
+    let g : content 1 16 (at xs) ≡ 1 = over_one (at xs) in
+    let lists : xs ≡ tabulate 16 (λ j. quotient (content 1 16 (at xs)) (at xs j)) =
+    same_lists 16 xs _ full (λ j lt. sym (ap (λ k. quotient k (at xs j)) g ∙ quotient-one (at xs j))) in
+    let bottom : 1 ≡ 1 / content 1 16 (at xs) = sym (ap (λ k. 1 / k) g) in
+    λ t. record { numerators = lists t; denominator = bottom t }
+
+pub number_over_one : (xs : List ℤ) (d : ℕ) → d ≡ 1 → ((j : ℕ) → unsigned_abs (at xs j) ≤ 2 ^ 127 - 1) → IsNumber xs d
+number_over_one xs d one small = record {
+  small = small;
+  positive = omega (arith, one);
+  bounded = omega (arith, one);
+  lowest = ap (λ k. content k 16 (at xs)) one ∙ over_one (at xs);
+}
+
+pub reduced_over : (xs : List ℤ) (d : ℕ) → d ≡ 1 → length xs ≡ 16 → ◌≡◌ {A = Ratio} (record { numerators = xs; denominator = d }) (reduced (at xs) d)
+reduced_over xs d one full =
+    ap (λ (k : ℕ). record { numerators = xs; denominator = k }) one ∙ reduced_over_one xs full ∙ ap (reduced (at xs)) (sym one)

@@ -11,6 +11,7 @@ use Rattle.poly_core.specs.Combination.{Sequence, times, pointwise}
 use Rattle.poly_core.specs.Companion.{IsBelow}
 use Rattle.cyclo_core.specs.Content.{content, quotient, content-times, content-divides, content-divides-first, quotient-back, quotient-times}
 
+-- a sequence over a denominator
 pub record Fraction : Type 0 where
   pub over : Sequence
   pub under : ℕ
@@ -19,6 +20,7 @@ pub record Fraction : Type 0 where
 abbrev pub scale : ℕ → Fraction → Fraction
 scale k p = record { over = times (pos k) p.over; under = k * p.under }
 
+-- what both parts have in common
 abbrev pub common : ℕ → Fraction → ℕ
 common n p = content p.under n p.over
 
@@ -26,6 +28,7 @@ common n p = content p.under n p.over
 abbrev pub reduce : ℕ → Fraction → Fraction
 reduce n p = record { over = λ j. quotient (common n p) (p.over j); under = p.under / common n p }
 
+-- a positive denominator, and zero from n on
 pub record IsProper (n : ℕ) (p : Fraction) : Type 0 where
   pub positive : 0 < p.under
   pub below : IsBelow n p.over

@@ -7,12 +7,15 @@ use Rattle.poly_core.specs.Companion.{IsBelow, unit, power, product, product_com
 use Rattle.poly_core.specs.Image.{image, image-product, image-power}
 use Rattle.cyclo_core.specs.Fraction.{Fraction, scale, common, reduce, IsProper, same, product_pos, reduce-back, IsProper-reduce, reduce-scale, reduce-absorb, ring_rules}
 
+-- the sum of two fractions, before it is reduced
 abbrev pub sum : Fraction → Fraction → Fraction
 sum p q = record { over = plus (times (pos q.under) p.over) (times (pos p.under) q.over); under = p.under * q.under }
 
+-- the negative
 abbrev pub negative : Fraction → Fraction
 negative p = record { over = times (negsuc 0) p.over; under = p.under }
 
+-- a sequence over 1
 abbrev pub whole : Sequence → Fraction
 whole f = record { over = f; under = 1 }
 

@@ -35,15 +35,18 @@ pub record IsNumber (numerators : List ℤ) (denominator : ℕ) : Type 0 where
   pub bounded : denominator ≤ 2 ^ 127 - 1
   pub lowest : content denominator 16 (at numerators) ≡ 1
 
+-- whether two lists are equal, place by place
 abbrev pub same_list : List ℤ → List ℤ → Bool
 same_list [] [] = true
 same_list [] (y ∷ ys) = false
 same_list (x ∷ xs) [] = false
 same_list (x ∷ xs) (y ∷ ys) = int_equal x y && same_list xs ys
 
+-- whether two numbers are equal: numerators and denominator
 abbrev pub same_ratio : Ratio → Ratio → Bool
 same_ratio x y = same_list x.numerators y.numerators && nat_eq x.denominator y.denominator
 
+-- the magnitude of the numerator at j
 abbrev pub magnitude : Ratio → ℕ → ℕ
 magnitude x j = unsigned_abs (at x.numerators j)
 
@@ -91,12 +94,14 @@ conjugate_over N x j = int_sum (degree N) (conjugate_term N x j)
 abbrev pub product_size_term : ℕ → Sequence → Sequence → ℕ → ℕ → ℕ → ℕ
 product_size_term N x y j a b = unsigned_abs (x a) * unsigned_abs (y b) * unsigned_abs (rho N ((a + b) % order N) j)
 
+-- what a product's numerator at j may be at most: the sum over a and b of |x_a| |y_b| |rho((a + b) mod N, j)|
 abbrev pub product_size : ℕ → Sequence → Sequence → ℕ → ℕ
 product_size N x y j = nat_sum (degree N) (λ a. nat_sum (degree N) (product_size_term N x y j a))
 
 abbrev pub conjugate_size_term : ℕ → Sequence → ℕ → ℕ → ℕ
 conjugate_size_term N x j a = unsigned_abs (x a) * unsigned_abs (rho N ((order N - a) % order N) j)
 
+-- the sum over a of |x_a| |rho((N - a) mod N, j)|
 abbrev pub conjugate_size : ℕ → Sequence → ℕ → ℕ
 conjugate_size N x j = nat_sum (degree N) (conjugate_size_term N x j)
 
@@ -107,7 +112,10 @@ sum_size x y j =
     let g = gcd x.denominator y.denominator in
     magnitude x j * (y.denominator / g) + magnitude y j * (x.denominator / g)
 
--- the ring of root N: fractions of sums of powers of z, each in its reduced form
+-- The ring of root N: fractions of sums of powers of z, each in its reduced form. A member is its own reduced
+-- form with the numerators below phi(N): those from there on are zero, nothing is common, and the denominator
+-- isn't 0. The operations take every value: places from phi(N) on don't count, and a denominator 0 counts as 1.
+-- The fit tests are on magnitudes before anything cancels. A number N that is no accepted root has the ring of 1.
 abbrev pub ring_at : ℕ → Ring Ratio
 ring_at N = record {
   member = λ x. same_ratio x (reduced (coefficient N x) (under x));

@@ -66,6 +66,12 @@ fn cancelled(numerators: &[i128; 16], denominator: u128) -> Number
     ensures value { result ≡ reduced (at numerators.now) denominator }
     ensures holds { IsTrue (is_held result) }
 {
+    if denominator == 1 {
+        return Number {
+            numerators: *numerators,
+            denominator,
+        };
+    }
     let divisor = content(denominator, numerators);
     Number {
         numerators: quotients(numerators, divisor),

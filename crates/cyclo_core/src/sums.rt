@@ -57,8 +57,11 @@ fn add_row(
     ensures value { IfOk result (λ t. t.value ≡ tally.value +ℤ int_sum (degree powers.now) (product_term powers.now (at x.now) (at y.now) j a)) }
     ensures size { IfOk result (λ t. t.size ≡ tally.size + nat_sum (degree powers.now) (product_size_term powers.now (at x.now) (at y.now) j a)) }
 {
-    let mut tally = tally;
     let end = places(powers);
+    if x[a] == 0 {
+        return Ok(tally);
+    }
+    let mut tally = tally;
     for b in 0..end {
         tally = add_term(tally, &x[a], &y[b], &power_at(powers, a + b, j))?;
     }

@@ -4,9 +4,11 @@ use Rattle.std.specs.Prelude.{ℤ, pos, ◌+ℤ◌, ◌*ℤ◌}
 use Rattle.std.proofs.lemmas.Int.{ints}
 use Rattle.ring_laws.specs.IntLaws.{mul-add, mul_comm, mul_assoc}
 
+-- whole numbers by their place
 abbrev pub Sequence : Type 0
 Sequence = ℕ → ℤ
 
+-- place by place
 abbrev pub plus : Sequence → Sequence → Sequence
 plus f g = λ j. f j +ℤ g j
 
@@ -21,6 +23,7 @@ abbrev pub comb : ℕ → Sequence → (ℕ → Sequence) → Sequence
 comb zero x v = nought
 comb (suc k) x v = plus (comb k x v) (times (x k) (v k))
 
+-- a map that keeps sums and multiples
 pub record Linear (F : Sequence → Sequence) : Type 0 where
   pub add : (f g : Sequence) → F (plus f g) ≡ plus (F f) (F g)
   pub scale : (a : ℤ) (f : Sequence) → F (times a f) ≡ times a (F f)

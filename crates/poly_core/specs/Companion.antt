@@ -28,6 +28,7 @@ pub record IsBelow (k : ℕ) (f : Sequence) : Type 0 where
 abbrev pub next : ℕ → Sequence → Sequence → Sequence
 next d P f = λ j. shift f j +ℤ neg_ℤ (f d *ℤ P j)
 
+-- x to the power k
 abbrev pub power : ℕ → Sequence → ℕ → Sequence
 power d P zero = unit zero
 power d P (suc k) = next d P (power d P k)
@@ -36,6 +37,7 @@ power d P (suc k) = next d P (power d P k)
 abbrev pub product : ℕ → Sequence → Sequence → Sequence → Sequence
 product d P x y = comb (suc d) x (λ a. comb (suc d) y (λ b. power d P (a + b)))
 
+-- the product with x, c times over
 abbrev pub iter : ℕ → Sequence → ℕ → Sequence → Sequence
 iter d P zero f = f
 iter d P (suc c) f = next d P (iter d P c f)

@@ -1,11 +1,13 @@
 -- Cyclotomic polynomials, as exact quotients. A polynomial is the list of its coefficients, low one first.
 use Rattle.std.specs.Prelude.{◌≡◌, ℕ, zero, suc, ◌-◌, ◌%◌, ◌<◌, Bool, nat_eq, if◌then◌else◌, List, [], ◌∷◌, ◌++◌, replicate, map, ℤ, pos, negsuc, ◌+ℤ◌, ◌*ℤ◌, IsTrue}
 
+-- the sum of two polynomials
 abbrev pub sum_of : List ℤ → List ℤ → List ℤ
 sum_of [] ys = ys
 sum_of (x ∷ xs) [] = x ∷ xs
 sum_of (x ∷ xs) (y ∷ ys) = (x +ℤ y) ∷ sum_of xs ys
 
+-- the product of two polynomials
 abbrev pub product_of : List ℤ → List ℤ → List ℤ
 product_of [] ys = []
 product_of (x ∷ xs) ys = sum_of (map (λ y. x *ℤ y) ys) (pos 0 ∷ product_of xs ys)
@@ -14,6 +16,7 @@ product_of (x ∷ xs) ys = sum_of (map (λ y. x *ℤ y) ys) (pos 0 ∷ product_o
 abbrev pub power_less_one : ℕ → List ℤ
 power_less_one n = negsuc 0 ∷ (replicate (n - 1) (pos 0) ++ pos 1 ∷ [])
 
+-- whether d divides n
 abbrev pub divides : ℕ → ℕ → Bool
 divides d n = nat_eq (n % d) 0
 

@@ -19,9 +19,11 @@ pub record Root : Type 0 where
   pub less_one : ℕ
   pub low : List ℤ
 
+-- the coefficients of Phi_N
 abbrev pub phi : Root → Sequence
 phi r = at (whole_row r.low)
 
+-- z^0, as a row of d + 1 coefficients
 abbrev pub first : ℕ → List ℤ
 first d = pos 1 ∷ replicate d (pos 0)
 
@@ -30,46 +32,60 @@ abbrev pub combined : ℕ → Sequence → (ℕ → ℤ) → ℤ
 combined zero x v = pos 0
 combined (suc k) x v = combined k x v +ℤ x k *ℤ v k
 
+-- the rows of z^0 to z^N
 abbrev pub table_of : Root → List (List ℤ)
 table_of r = rows r.low r.less_one (suc r.order) (first r.less_one)
 
+-- the coefficient at j of row k
 abbrev pub entry : List (List ℤ) → ℕ → ℕ → ℤ
 entry table k j = at (get_or table k []) j
 
+-- z^N is 1, at place j
 abbrev pub rounds : Root → List (List ℤ) → ℕ → Bool
 rounds r table j = int_equal (entry table r.order j) (unit zero j)
 
+-- Phi_N vanishes at z^k, at place j
 abbrev pub vanishes : Root → List (List ℤ) → ℕ → ℕ → Bool
 vanishes r table k j = int_equal (combined (suc (suc r.less_one)) (phi r) (λ i. entry table ((k * i) % r.order) j)) (pos 0)
 
+-- it vanishes at z^k, where k is to be tried
 abbrev pub vanishes_if : Bool → Root → List (List ℤ) → ℕ → Bool
 vanishes_if false r table k = true
 vanishes_if true r table k = all_below (suc r.less_one) (vanishes r table k)
 
+-- it vanishes at z^k, where k has no divisor in common with N
 abbrev pub is_root : Root → List (List ℤ) → ℕ → Bool
 is_root r table k = vanishes_if (eqb (gcd k r.order) 1) r table k
 
+-- the coefficients of z^k are 1, 0 and -1
 abbrev pub is_tiny : Root → List (List ℤ) → ℕ → Bool
 is_tiny r table k = all_below (suc r.less_one) (λ j. leb (unsigned_abs (entry table k j)) 1)
 
+-- there are as many coefficients as the degree says
 abbrev pub is_full : Root → Bool
 is_full r = eqb (length r.low) (suc r.less_one)
 
+-- N isn't 0
 abbrev pub is_positive : Root → Bool
 is_positive r = eqb (r.order - 1 + 1) r.order
 
+-- the degree is at most 16
 abbrev pub is_small : Root → Bool
 is_small r = leb (suc r.less_one) 16
 
+-- the degree is at most N
 abbrev pub is_within : Root → Bool
 is_within r = leb (suc r.less_one) r.order
 
+-- N - 1 has no divisor in common with N
 abbrev pub is_turned : Root → Bool
 is_turned r = eqb (gcd (r.order - 1) r.order) 1
 
+-- the degree is Euler's phi of N
 abbrev pub is_counted : Root → Bool
 is_counted r = eqb (totient r.order) (suc r.less_one)
 
+-- the coefficients of Phi_N are 1, 0 and -1
 abbrev pub is_low_tiny : Root → Bool
 is_low_tiny r = all_below (suc (suc r.less_one)) (λ j. leb (unsigned_abs (phi r j)) 1)
 
@@ -79,9 +95,11 @@ sizes_pass r = is_full r && (is_small r && (is_positive r && (is_within r && (is
 abbrev pub table_passes : Root → List (List ℤ) → Bool
 table_passes r table = all_below (suc r.less_one) (rounds r table) && (all_below r.order (is_root r table) && all_below r.order (is_tiny r table))
 
+-- all tests of a root
 abbrev pub passes : Root → Bool
 passes r = sizes_pass r && table_passes r (table_of r)
 
+-- what the tests say
 pub record IsGood (r : Root) : Type 0 where
   pub positive : 0 < r.order
   pub small : suc r.less_one ≤ 16

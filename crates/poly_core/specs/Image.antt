@@ -7,6 +7,7 @@ use Rattle.ring_laws.specs.IntLaws.{mul_comm, mul-neg}
 use Rattle.poly_core.specs.Combination.{Sequence, plus, times, nought, comb, pointwise, comb-family, linear-comb, Linear-comb}
 use Rattle.poly_core.specs.Companion.{unit, shift, next, power, product, iter, IsBelow, Linear-iter, iter-power, comb-power, power-product, product_comm, Linear-product}
 
+-- f with x^k put for x
 abbrev pub image : ℕ → Sequence → ℕ → Sequence → Sequence
 image d P k x = comb (suc d) x (λ i. power d P (k * i))
 

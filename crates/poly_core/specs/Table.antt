@@ -6,6 +6,7 @@ use Rattle.std.proofs.lemmas.Bool.{cases_lt, cases_eq}
 use Rattle.poly_core.specs.Combination.{Sequence, pointwise}
 use Rattle.poly_core.specs.Companion.{IsBelow, shift, next, power}
 
+-- the coefficients of a list, zero past its end
 abbrev pub at : List ℤ → Sequence
 at xs = λ j. get_or xs j (pos 0)
 
@@ -45,6 +46,7 @@ abbrev pub rows : List ℤ → ℕ → ℕ → List ℤ → List (List ℤ)
 rows ps d zero rs = []
 rows ps d (suc k) rs = rs ∷ rows ps d k (next_row ps d rs)
 
+-- the coefficients below the top, and 1 on top
 abbrev pub whole_row : List ℤ → List ℤ
 whole_row ps = ps ++ pos 1 ∷ []
 

@@ -3,7 +3,7 @@ use Rattle.std.proofs.Math.Nat.{div-le_self}
 use Rattle.poly_core.specs.Table.{at}
 use Rattle.cyclo_core.specs.Content.{quotient}
 use Rattle.cyclo_core.specs.Ratio.{IsNumber}
-use Rattle.cyclo_core.proofs.NumberLemmas.{IsCancelled, reduced_value, cancelled_lowest, cancelled_positive, content_positive, holds}
+use Rattle.cyclo_core.proofs.NumberLemmas.{IsCancelled, reduced_value, cancelled_lowest, cancelled_positive, content_positive, holds, reduced_over, number_over_one}
 use Rattle.cyclo_core.proofs.number.cancelled.Goals as goal
 
 pub quotients-requires-clause-positive : goal.quotients-requires-clause-positive
@@ -34,8 +34,17 @@ number_is c = record {
 pub returns-clause-value : goal.returns-clause-value
 returns-clause-value c = reduced_value _ _ _ _ (is_cancelled c)
 
-pub invariant_of-result : goal.invariant_of-result
-invariant_of-result c = number_is c
+pub invariant_of-result-2 : goal.invariant_of-result-2
+invariant_of-result-2 c = number_is c
 
 pub returns-clause-holds : goal.returns-clause-holds
 returns-clause-holds c = holds c.quotients.result (c.args.denominator / c.content-divisor.result) (number_is c)
+
+pub invariant_of-result : goal.invariant_of-result
+invariant_of-result c = number_over_one c.args.numerators.now c.args.denominator c.if-denominator-eq1.true c.requires.small
+
+pub returns-then-denominator-eq1-clause-value : goal.returns-then-denominator-eq1-clause-value
+returns-then-denominator-eq1-clause-value c = reduced_over c.args.numerators.now c.args.denominator c.if-denominator-eq1.true c.told-numerators
+
+pub returns-then-denominator-eq1-clause-holds : goal.returns-then-denominator-eq1-clause-holds
+returns-then-denominator-eq1-clause-holds c = holds c.args.numerators.now c.args.denominator (number_over_one c.args.numerators.now c.args.denominator c.if-denominator-eq1.true c.requires.small)

@@ -1,4 +1,3 @@
-use Rattle.std.proofs.Common.{rules}
 use Rattle.cyclo_core.proofs.NumberLemmas.{holds}
 use Rattle.cyclo_core.proofs.number.Number.denominator.Goals as goal
 
