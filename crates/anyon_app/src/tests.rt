@@ -261,7 +261,11 @@ fn faults(rt: HostRuntime) -> Result<(), Fail> {
         let mut sink = MemSink::new(alloc, 200, vec![in alloc; k + 1]?, 16)?;
         let status = anyon(alloc, words.as_slice(), &mut shelf, &mut sink);
         assert_eq!(rt; status, Status::WriteFault, "write {k}");
-        assert_eq!(rt; sink.taken().len() as u64, k.saturating_mul(16), "write {k}");
+        assert_eq!(rt;
+            sink.taken().len() as u64,
+            k.saturating_mul(16),
+            "write {k}"
+        );
     }
     Ok(())
 }
