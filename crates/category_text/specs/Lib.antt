@@ -1,3 +1,6 @@
 pub mod Named
 pub mod Reading
 pub mod Answers
+pub mod Canonical
+pub mod Writing
+pub mod Spelled

@@ -17,3 +17,19 @@ pub(crate) enum Symbol {
     OfW(VIndex),
     OfV(VIndex),
 }
+
+/// The kinds of symbols of a vertex.
+#[derive(Clone, Copy, Debug, PartialEq, Eq)]
+pub(crate) enum VertexKind {
+    OnR,
+    OnW,
+    OnV,
+}
+
+/// What the lines of three labels say: triples, symbols of a vertex, or F with these labels in front.
+#[derive(Clone, Copy, Debug, PartialEq, Eq)]
+pub(crate) enum Group {
+    Fusions,
+    Vertices(VertexKind),
+    FBehind(VIndex),
+}

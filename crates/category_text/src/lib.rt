@@ -8,21 +8,28 @@
 //!   (`specs/Named.antt`).
 //! - *category of a text*: its named symbols, or the first line that is refused, with its first cause
 //!   (`specs/Reading.antt`, `category_of`).
+//! - *canonical text*: the one text that is written for named symbols (`specs/Canonical.antt`).
+//! - *spelled text*: the lines of a head, new triples and values of new indices, one behind the other
+//!   (`specs/Spelled.antt`).
 #![tactic(auto)]
 
 mod body;
 mod fault;
 mod head;
 mod kind;
+mod laws;
 mod line_reading;
 mod named;
 mod reading;
 mod symbols;
 mod words;
+mod writing;
 
 pub use fault::{CategoryCause, CategoryFault};
+pub use laws::spelled_categories;
 pub use named::Named;
 pub use reading::read_category;
+pub use writing::write_category;
 
 #[cfg(test)]
 mod tests;

@@ -1,0 +1,163 @@
+-- Lines that are written are read again.
+use Rattle.std.proofs.Common.{◌≡◌, ℕ, zero, suc, ◌+◌, ◌<◌, ◌≤◌, List, [], ◌∷◌, ◌++◌, Bool, length, map, get_or, refl, ap, ◌∙◌, arith, true, false, ◌||◌, ◌==◌, ltb, Some, None, Ok, codes, sym, subst}
+use Rattle.std.specs.Fmt.{decimal}
+use Rattle.std.specs.List.{position_or_len}
+use Rattle.std.specs.Str.{bytes_eq}
+use Rattle.std.proofs.lemmas.Bool.Decides.{nat_tests}
+use Rattle.std.proofs.lemmas.Slice.Eq.{bytes_eq-Decides}
+use Rattle.line_text.specs.Text.{Found, Counted, words_of, lines_of, found_in}
+use Rattle.line_text.specs.Spelling.{spaced, spelled, counted, all_plain, ArePlainLines}
+use Rattle.line_text.proofs.PlainLemmas.{number_again}
+use Rattle.line_text.proofs.SpellingLemmas.{words_again, found_again}
+use Rattle.fusion_rules.specs.Names.{is_among, has_repeat, AreNames, label_of}
+use Rattle.fusion_rules.proofs.NameLemmas.{eq_comm}
+use Rattle.poly_core.specs.Rho.{is_accepted}
+use Rattle.cyclo_core.specs.Ratio.{Ratio}
+use Rattle.cyclo_text.specs.NumberWords.{number_of, spelled_number}
+use Rattle.symbol_table.specs.declared.index.VIndex.{VIndex}
+use Rattle.category_text.specs.declared.kind.Symbol.{Symbol}
+use Rattle.category_text.specs.declared.kind.Symbol.TheVariants.{OfF, OfR, OfW, OfV}
+use Rattle.category_text.specs.Named.{NamedSymbols, symbol_fault}
+use Rattle.category_text.specs.Reading.{SoFar, line_of, fuse_of, symbol_of, body_of, head_of, header_of, root_of, labels_of, begun, category_of}
+use Rattle.category_text.specs.Answers.{SymbolBelow}
+use Rattle.category_text.specs.Canonical.{name_of, fuse_line}
+use Rattle.category_text.specs.Spelled.{symbol_words, fused_with, set_with, fused_all, set_all, FreshTriples, FreshSymbols, words_at, lines_over, SpelledAgain}
+use Rattle.category_text.proofs.RootLemmas.{large_root}
+
+same_text : (m : List ℕ) → bytes_eq m m ≡ true
+same_text m = (bytes_eq-Decides m m).1 refl
+
+other_name : (names : List (List ℕ)) (n : List ℕ) (k : ℕ) → is_among names n ≡ false → k < length names → bytes_eq n (get_or names k []) ≡ false
+other_name [] n k none within = absurd (omega arith)
+other_name (m ∷ ms) n zero none within = by_test (bytes_eq n m) none
+  where
+    by_test : (b : Bool) → (b || is_among ms n) ≡ false → b ≡ false
+    by_test true none = cc
+    by_test false none = refl
+other_name (m ∷ ms) n (suc k) none within = by_test (bytes_eq n m) none (λ h. other_name ms n k h (omega arith))
+  where
+    by_test : (b : Bool) → (b || is_among ms n) ≡ false → (is_among ms n ≡ false → bytes_eq n (get_or ms k []) ≡ false) → bytes_eq n (get_or ms k []) ≡ false
+    by_test true none later = absurd (cc)
+    by_test false none later = later none
+
+place_again : (names : List (List ℕ)) (a : ℕ) → has_repeat names ≡ false → a < length names → position_or_len (bytes_eq (name_of names a)) names ≡ a
+place_again [] a none within = absurd (omega arith)
+place_again (n ∷ ns) zero none within = rw (same_text n) refl
+place_again (n ∷ ns) (suc k) none within = by_test (is_among ns n) refl none (λ h. place_again ns k h (omega arith))
+  where
+    by_test : (b : Bool) → is_among ns n ≡ b → (b || has_repeat ns) ≡ false → (has_repeat ns ≡ false → position_or_len (bytes_eq (name_of ns k)) ns ≡ k) → position_or_len (bytes_eq (name_of ns k)) (n ∷ ns) ≡ suc k
+    by_test true e none later = absurd (cc)
+    by_test false e none later = let other : bytes_eq (name_of ns k) n ≡ false = eq_comm (name_of ns k) n ∙ other_name ns n k e (omega arith) in rw (other, later none) (omega arith)
+
+pub label_again : (names : List (List ℕ)) (a : ℕ) → AreNames names → a < length names → label_of names (name_of names a) ≡ Some a
+label_again names a are within =
+    let place = place_again names a are.distinct within in
+    let in' : ltb (position_or_len (bytes_eq (name_of names a)) names) (length names) ≡ true = grind (arith, nat_tests) in
+    rw in' (ap Some place)
+
+fuse_again : (said : NamedSymbols) (t : VIndex) → AreNames said.names → t.a < length said.names → t.b < length said.names → t.c < length said.names → (t.a == 0) ≡ false → (t.b == 0) ≡ false → said.given.fuse t.a t.b t.c ≡ false
+    → line_of (record { said = said; has_symbols = false }) (fuse_line said t) ≡ Ok (record { said = fused_with said t; has_symbols = false })
+unfolding line_of fuse_of
+fuse_again said t are a b c a_some b_some new =
+    rw (label_again said.names t.a are a, label_again said.names t.b are b, label_again said.names t.c are c, a_some, b_some, new) refl
+
+symbol_again : (said : NamedSymbols) (started : Bool) (s : Symbol) (x : Ratio) → AreNames said.names → SymbolBelow (length said.names) s → symbol_fault said.given s ≡ None → number_of said.root (spelled_number x) ≡ Ok x
+    → line_of (record { said = said; has_symbols = started }) (symbol_words said.names s x) ≡ Ok (record { said = set_with said s x; has_symbols = true })
+unfolding line_of symbol_of
+symbol_again said started (OfF at) x are (a, b, c, d, e, f) free read =
+    rw (label_again said.names at.a are a, label_again said.names at.b are b, label_again said.names at.c are c, label_again said.names at.d are d, label_again said.names at.e are e, label_again said.names at.f are f, free, read) refl
+symbol_again said started (OfR at) x are (a, b, c) free read = rw (label_again said.names at.a are a, label_again said.names at.b are b, label_again said.names at.c are c, free, read) refl
+symbol_again said started (OfW at) x are (a, b, c) free read = rw (label_again said.names at.a are a, label_again said.names at.b are b, label_again said.names at.c are c, free, read) refl
+symbol_again said started (OfV at) x are (a, b, c) free read = rw (label_again said.names at.a are a, label_again said.names at.b are b, label_again said.names at.c are c, free, read) refl
+
+-- Line after line.
+abbrev pub AllPlain : List (List (List ℕ)) → Type 0
+AllPlain [] = Unit {0}
+AllPlain (ws ∷ ls) = (all_plain ws ≡ true) × AllPlain ls
+
+step : (before next : SoFar) (words : List (List ℕ)) (n : ℕ) (more : List Found) (end : SoFar) → all_plain words ≡ true → line_of before words ≡ Ok next → body_of next more ≡ Ok end → body_of before (Counted n (spaced words) ∷ more) ≡ Ok end
+step before next words n more end plain is later = rw (words_again words plain, is) later
+
+pub fuses_again : (said : NamedSymbols) (ts : List VIndex) (rest : List (List (List ℕ))) (end : SoFar) → AreNames said.names → FreshTriples said ts → AllPlain (map (fuse_line said) ts)
+    → ((m : ℕ) → body_of (record { said = fused_all said ts; has_symbols = false }) (counted m rest) ≡ Ok end) → (n : ℕ) → body_of (record { said = said; has_symbols = false }) (counted n (map (fuse_line said) ts ++ rest)) ≡ Ok end
+fuses_again said [] rest end are fresh plain later n = later n
+fuses_again said (t ∷ ts) rest end are fresh plain later n =
+    let (a, b, c, a_some, b_some, new, more) = fresh in
+    step (record { said = said; has_symbols = false }) (record { said = fused_with said t; has_symbols = false }) (fuse_line said t) (n + 1) (counted (n + 1) (map (fuse_line said) ts ++ rest)) end plain.0
+    (fuse_again said t are a b c a_some b_some new) (fuses_again (fused_with said t) ts rest end are more plain.1 later (n + 1))
+
+-- whether a symbol line was read
+abbrev pub starts : Bool → List (Symbol × Ratio) → Bool
+starts started [] = started
+starts started (s ∷ ss) = starts true ss
+
+pub symbols_again : (said : NamedSymbols) (started : Bool) (ss : List (Symbol × Ratio)) → AreNames said.names → FreshSymbols said ss → AllPlain (map (words_at said.names) ss)
+    → (n : ℕ) → body_of (record { said = said; has_symbols = started }) (counted n (map (words_at said.names) ss)) ≡ Ok (record { said = set_all said ss; has_symbols = starts started ss })
+symbols_again said started [] are fresh plain n = refl
+symbols_again said started (s ∷ ss) are fresh plain n =
+    let (below, free, read, more) = fresh in
+    step (record { said = said; has_symbols = started }) (record { said = set_with said s.0 s.1; has_symbols = true }) (symbol_words said.names s.0 s.1) (n + 1) (counted (n + 1) (map (words_at said.names) ss)) (record { said = set_all said (s ∷ ss); has_symbols = starts true ss }) plain.0
+    (symbol_again said started s.0 s.1 are below free read) (symbols_again (set_with said s.0 s.1) true ss are more plain.1 (n + 1))
+
+-- The head.
+accepted_small : (root : ℕ) → is_accepted root ≡ true → root ≤ 60
+accepted_small root accepted = go (ltb 60 root) refl
+  where
+    go : (b : Bool) → ltb 60 root ≡ b → root ≤ 60
+    go true e = absurd (let h : is_accepted root ≡ false = large_root root (grind (arith, nat_tests)) in cc)
+    go false e = grind (arith, nat_tests)
+
+root_again : (root : ℕ) → is_accepted root ≡ true → root ≤ 60 → root_of (codes "root" ∷ decimal root ∷ []) ≡ Ok root
+root_again root accepted small = rw (number_again root (omega arith), accepted) refl
+
+labels_again : (names : List (List ℕ)) → AreNames names → 0 < length names → labels_of (codes "labels" ∷ names) ≡ Ok names
+labels_again [] are some = absurd (omega arith)
+labels_again (n ∷ ns) are some =
+    let few : ltb 12 (length (n ∷ ns)) ≡ false = (let f = are.few in grind (arith, nat_tests)) in
+    rw (are.spelled, few, are.distinct) refl
+
+head_by : (a b c : ℕ) (header root_text labels : List ℕ) (rest : List Found) (count root : ℕ) (names : List (List ℕ)) → header_of (words_of header) ≡ Ok tt → root_of (words_of root_text) ≡ Ok root → labels_of (words_of labels) ≡ Ok names
+    → head_of (record { ahead = Counted a header ∷ Counted b root_text ∷ Counted c labels ∷ rest; count = count }) ≡ Ok ((root, names), rest)
+unfolding head_of
+head_by a b c header root_text labels rest count root names e f g = rw (e, f, g) refl
+
+head_again : (root : ℕ) (names : List (List ℕ)) (rest : List Found) (a b c count : ℕ) → AreNames names → 0 < length names → is_accepted root ≡ true → root ≤ 60 → all_plain (codes "root" ∷ decimal root ∷ []) ≡ true → all_plain (codes "labels" ∷ names) ≡ true
+    → head_of (record { ahead = Counted a (spaced (codes "category" ∷ codes "1" ∷ [])) ∷ Counted b (spaced (codes "root" ∷ decimal root ∷ [])) ∷ Counted c (spaced (codes "labels" ∷ names)) ∷ rest; count = count }) ≡ Ok ((root, names), rest)
+head_again root names rest a b c count are some accepted small plain_root plain_labels =
+    head_by a b c (spaced (codes "category" ∷ codes "1" ∷ [])) (spaced (codes "root" ∷ decimal root ∷ [])) (spaced (codes "labels" ∷ names)) rest count root names refl
+    (ap root_of (words_again (codes "root" ∷ decimal root ∷ []) plain_root) ∙ root_again root accepted small)
+    (ap labels_of (words_again (codes "labels" ∷ names) plain_labels) ∙ labels_again names are some)
+
+-- The whole text.
+category_by : (text : List ℕ) (found : List Found) (rest : List Found) (root : ℕ) (names : List (List ℕ)) (end : SoFar) → found_in 0 (lines_of text) ≡ found
+    → ((count : ℕ) → head_of (record { ahead = found; count = count }) ≡ Ok ((root, names), rest)) → body_of (begun root names) rest ≡ Ok end → category_of text ≡ Ok end.said
+unfolding category_of
+category_by text found rest root names end e head body = rw (e, head (0 + length (lines_of text)), body) refl
+
+plain_each : (ls : List (List (List ℕ))) → ArePlainLines ls → AllPlain ls
+plain_each [] are = tt
+plain_each (ws ∷ ls) are = (are.0.plain, plain_each ls are.1)
+
+plain_left : (ls ms : List (List (List ℕ))) → AllPlain (ls ++ ms) → AllPlain ls × AllPlain ms
+plain_left [] ms all = (tt, all)
+plain_left (ws ∷ ls) ms all = let rest = plain_left ls ms all.1 in ((all.0, rest.0), rest.1)
+
+names_stay : (said : NamedSymbols) (ts : List VIndex) → (fused_all said ts).names ≡ said.names
+names_stay said [] = refl
+names_stay said (t ∷ ts) = names_stay (fused_with said t) ts
+
+-- what is in order and spelled is read again
+pub text_again : SpelledAgain
+text_again root names ts ss are some accepted fresh_ts fresh_ss plain =
+    let said = (begun root names).said in
+    let all = plain_left (map (fuse_line said) ts) (map (words_at names) ss) (plain_each (map (fuse_line said) ts ++ map (words_at names) ss) plain.1.1.1) in
+    let fused = fused_all said ts in
+    let same = names_stay said ts in
+    let end : SoFar = record { said = set_all fused ss; has_symbols = starts false ss } in
+    let after : (m : ℕ) → body_of (record { said = fused; has_symbols = false }) (counted m (map (words_at names) ss)) ≡ Ok end =
+    λ m. subst (λ ns. body_of (record { said = fused; has_symbols = false }) (counted m (map (words_at ns) ss)) ≡ Ok end) same
+    (symbols_again fused false ss (subst AreNames (sym same) are) fresh_ss (subst (λ ns. AllPlain (map (words_at ns) ss)) (sym same) all.1) m) in
+    category_by (spelled (lines_over said ts ss)) (counted 0 (lines_over said ts ss)) (counted 3 (map (fuse_line said) ts ++ map (words_at names) ss)) root names end
+    (found_again 0 (lines_over said ts ss) plain)
+    (λ count. head_again root names (counted 3 (map (fuse_line said) ts ++ map (words_at names) ss)) 1 2 3 count are some accepted (accepted_small root accepted) plain.1.0.plain plain.1.1.0.plain)
+    (fuses_again said ts (map (words_at names) ss) end are fresh_ts all.0 after 3)

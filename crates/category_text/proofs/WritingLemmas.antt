@@ -1,0 +1,121 @@
+-- The text of all labels is written label by label.
+use Rattle.std.proofs.Common.{◌≡◌, ◌↔◌, ℕ, suc, ◌+◌, ◌-◌, ◌<◌, List, [], ◌∷◌, ◌++◌, Bool, true, false, length, map, filter, drop, refl, ap, sym, ◌∙◌, arith, append_assoc, IsTrue, if◌then◌else◌}
+use Rattle.std.specs.List.{flat_map}
+use Rattle.std.proofs.lemmas.List.{append-nil, drop_more}
+use Rattle.line_text.specs.Spelling.{spelled, spaced}
+use Rattle.cyclo_core.specs.Ratio.{Ratio, same_ratio}
+use Rattle.cyclo_core.specs.CycloLaws.{same_ratio_is}
+use Rattle.symbol_table.specs.Index.{v_index}
+use Rattle.symbol_table.specs.declared.index.FIndex.{FIndex}
+use Rattle.symbol_table.specs.declared.index.VIndex.{VIndex}
+use Rattle.category_text.specs.declared.kind.VertexKind.{VertexKind}
+use Rattle.category_text.specs.declared.kind.VertexKind.TheVariants.{OnR, OnW, OnV}
+use Rattle.category_text.specs.Named.{NamedSymbols}
+use Rattle.category_text.specs.Canonical.{name_of, counting, vertices, sixes, behind, fuse_line, f_line, vertex_line, has_fuse_line, has_f_line, has_vertex_line, fuse_lines, f_lines, vertex_lines, head_lines, canonical}
+use Rattle.category_text.specs.Writing.{texts, names_text, fuse_text, f_text, vertex_text, row, plane, space, behind_text, written}
+
+-- text behind text
+pub behind_again : (t u v x y : List ℕ) → u ≡ t ++ x → v ≡ u ++ y → v ≡ t ++ (x ++ y)
+behind_again t u v x y first second = second ∙ ap (λ w. w ++ y) first ∙ append_assoc t x y
+
+pub six_names : (a b c d e f n z : List ℕ)
+    → (32 ∷ (a ++ 32 ∷ (b ++ 32 ∷ c))) ++ ((32 ∷ (d ++ 32 ∷ (e ++ 32 ∷ f))) ++ 32 ∷ (n ++ z)) ≡ (32 ∷ (a ++ 32 ∷ (b ++ 32 ∷ (c ++ 32 ∷ (d ++ 32 ∷ (e ++ 32 ∷ (f ++ 32 ∷ n))))))) ++ z
+six_names a b c d e f n z = simp append_assoc refl
+
+-- one number more
+counting_more : (c n : ℕ) → c < n → counting c (n - c) ≡ c ∷ counting (c + 1) (n - (c + 1))
+counting_more c n below = let e : n - c ≡ suc (n - (c + 1)) = omega arith in ap (counting c) e
+
+pub texts_more : (text : ℕ → List ℕ) (c n : ℕ) (old new : List ℕ) → new ≡ old ++ text c → c < n → new ++ texts text (counting (c + 1) (n - (c + 1))) ≡ old ++ texts text (counting c (n - c))
+texts_more text c n old new e below =
+    ap (λ t. t ++ texts text (counting (c + 1) (n - (c + 1)))) e ∙ append_assoc old (text c) (texts text (counting (c + 1) (n - (c + 1)))) ∙ ap (λ cs. old ++ texts text cs) (sym (counting_more c n below))
+
+pub names_more : (names : List (List ℕ)) (k : ℕ) (old new : List ℕ) → new ≡ old ++ 32 ∷ name_of names k → k < length names → new ++ names_text (drop (k + 1) names) ≡ old ++ names_text (drop k names)
+names_more names k old new e below =
+    ap (λ t. t ++ names_text (drop (k + 1) names)) e ∙ append_assoc old (32 ∷ name_of names k) (names_text (drop (k + 1) names)) ∙ ap (λ ns. old ++ names_text ns) (sym (drop_more names k [] below))
+
+pub spaced_names : (word : List ℕ) (names : List (List ℕ)) → spaced (word ∷ names) ≡ word ++ names_text names
+spaced_names word [] = sym (append-nil word)
+spaced_names word (name ∷ names) = ap (λ t. word ++ 32 ∷ t) (spaced_names name names)
+
+texts_append : {A : Type 0} (f : A → List ℕ) (xs ys : List A) → texts f (xs ++ ys) ≡ texts f xs ++ texts f ys
+texts_append f [] ys = refl
+texts_append f (x ∷ xs) ys = ap (λ t. f x ++ t) (texts_append f xs ys) ∙ sym (append_assoc (f x) (texts f xs) (texts f ys))
+
+texts_map : {A B : Type 0} (f : B → List ℕ) (g : A → B) (xs : List A) → texts f (map g xs) ≡ texts (λ (x : A). f (g x)) xs
+texts_map f g [] = refl
+texts_map f g (x ∷ xs) = ap (λ t. f (g x) ++ t) (texts_map f g xs)
+
+texts_flat : {A B : Type 0} (f : B → List ℕ) (g : A → List B) (xs : List A) → texts f (flat_map g xs) ≡ texts (λ (x : A). texts f (g x)) xs
+texts_flat f g [] = refl
+texts_flat f g (x ∷ xs) = texts_append f (g x) (flat_map g xs) ∙ ap (λ t. texts f (g x) ++ t) (texts_flat f g xs)
+
+texts_same : {A : Type 0} (f g : A → List ℕ) → ((x : A) → f x ≡ g x) → (xs : List A) → texts f xs ≡ texts g xs
+texts_same f g same [] = refl
+texts_same f g same (x ∷ xs) = ap (λ t. t ++ texts f xs) (same x) ∙ ap (λ t. g x ++ t) (texts_same f g same xs)
+
+-- three labels
+texts_space : (n : ℕ) (text : VIndex → List ℕ) → texts text (vertices n) ≡ space n text
+texts_space n text =
+    texts_flat text (λ (a : ℕ). flat_map (λ (b : ℕ). map (λ (c : ℕ). v_index a b c) (counting 0 n)) (counting 0 n)) (counting 0 n)
+    ∙ texts_same (λ (a : ℕ). texts text (flat_map (λ (b : ℕ). map (λ (c : ℕ). v_index a b c) (counting 0 n)) (counting 0 n))) (λ (a : ℕ). plane n text a)
+    (λ a.
+    texts_flat text (λ (b : ℕ). map (λ (c : ℕ). v_index a b c) (counting 0 n)) (counting 0 n)
+    ∙ texts_same (λ (b : ℕ). texts text (map (λ (c : ℕ). v_index a b c) (counting 0 n))) (λ (b : ℕ). row n text a b) (λ b. texts_map text (λ (c : ℕ). v_index a b c) (counting 0 n)) (counting 0 n)) (counting 0 n)
+
+-- six labels
+texts_sixes : (n : ℕ) (text : FIndex → List ℕ) → texts text (sixes n) ≡ space n (λ (x : VIndex). space n (λ (y : VIndex). text (behind x y)))
+texts_sixes n text =
+    texts_flat text (λ (x : VIndex). map (behind x) (vertices n)) (vertices n)
+    ∙ texts_same (λ (x : VIndex). texts text (map (behind x) (vertices n))) (λ (x : VIndex). space n (λ (y : VIndex). text (behind x y)))
+    (λ x. texts_map text (behind x) (vertices n) ∙ texts_space n (λ (y : VIndex). text (behind x y))) (vertices n)
+    ∙ texts_space n (λ (x : VIndex). space n (λ (y : VIndex). text (behind x y)))
+
+-- the texts are those of the lines
+spelled_append : (ls ms : List (List (List ℕ))) → spelled (ls ++ ms) ≡ spelled ls ++ spelled ms
+spelled_append [] ms = refl
+spelled_append (l ∷ ls) ms = ap (λ t. spaced l ++ 10 ∷ t) (spelled_append ls ms) ∙ sym (append_assoc (spaced l) (10 ∷ spelled ls) (spelled ms))
+
+lines_are : {A : Type 0} (line : A → List (List ℕ)) (has : A → Bool) (xs : List A) → texts (λ (x : A). if has x then spelled (line x ∷ []) else []) xs ≡ spelled (map line (filter has xs))
+lines_are line has [] = refl
+lines_are line has (x ∷ xs) = go (has x) (lines_are line has xs)
+  where
+    go : (b : Bool) → texts (λ x. if has x then spelled (line x ∷ []) else []) xs ≡ spelled (map line (filter has xs)) → (if b then spelled (line x ∷ []) else []) ++ texts (λ x. if has x then spelled (line x ∷ []) else []) xs ≡ spelled (map line (if b then x ∷ filter has xs else filter has xs))
+    go true e = ap (λ t. (spaced (line x) ++ 10 ∷ []) ++ t) e ∙ append_assoc (spaced (line x)) (10 ∷ []) (spelled (map line (filter has xs)))
+    go false e = e
+
+module _ (named : NamedSymbols) where
+  fuses_are : space named.given.count (fuse_text named) ≡ spelled (fuse_lines named)
+  fuses_are = sym (texts_space named.given.count (fuse_text named)) ∙ lines_are (fuse_line named) (has_fuse_line named) (vertices named.given.count)
+
+  fs_are : space named.given.count (behind_text named) ≡ spelled (f_lines named)
+  fs_are = sym (texts_sixes named.given.count (f_text named)) ∙ lines_are (f_line named) (has_f_line named) (sixes named.given.count)
+
+  vertices_are : (kind : VertexKind) → space named.given.count (vertex_text named kind) ≡ spelled (vertex_lines named kind)
+  vertices_are kind = sym (texts_space named.given.count (vertex_text named kind)) ∙ lines_are (vertex_line named kind) (has_vertex_line named kind) (vertices named.given.count)
+
+  pub written_is : written named ≡ canonical named
+  unfolding canonical
+  written_is =
+      rw (
+        spelled_append (head_lines named) (fuse_lines named ++ (f_lines named ++ (vertex_lines named OnR ++ (vertex_lines named OnW ++ vertex_lines named OnV)))),
+        spelled_append (fuse_lines named) (f_lines named ++ (vertex_lines named OnR ++ (vertex_lines named OnW ++ vertex_lines named OnV))),
+        spelled_append (f_lines named) (vertex_lines named OnR ++ (vertex_lines named OnW ++ vertex_lines named OnV)),
+        spelled_append (vertex_lines named OnR) (vertex_lines named OnW ++ vertex_lines named OnV),
+        spelled_append (vertex_lines named OnW) (vertex_lines named OnV),
+        fuses_are,
+        fs_are,
+        vertices_are OnR,
+        vertices_are OnW,
+        vertices_are OnV,
+      ) refl
+
+-- a test that says whether two numbers are equal
+same_truth : (a b : Bool) → (IsTrue a → IsTrue b) → (IsTrue b → IsTrue a) → a ≡ b
+same_truth true true there back = refl
+same_truth true false there back = sym (there refl)
+same_truth false true there back = back refl
+same_truth false false there back = refl
+
+pub is_one_is : (test : Bool) (x y : Ratio) → IsTrue test ↔ (x ≡ y) → test ≡ same_ratio x y
+is_one_is test x y says = same_truth test (same_ratio x y) (λ t. (same_ratio_is x y).1 (says.0 t)) (λ t. says.1 ((same_ratio_is x y).0 t))

@@ -1,0 +1,17 @@
+use Rattle.std.proofs.Common.{ℕ, List, ◌∙◌, ◌++◌, ◌∷◌, [], ap}
+use Rattle.cyclo_text.specs.NumberWords.{spelled_number}
+use Rattle.category_text.specs.Canonical.{name_of}
+use Rattle.category_text.proofs.WritingLemmas.{behind_again, six_names}
+use Rattle.category_text.proofs.writing.write_f_line.Goals as goal
+
+pub returns : goal.returns
+returns c =
+    let name : ℕ → List ℕ = name_of c.args.names.now in
+    let at = c.args.at.now in
+    let begun = c.push.new.self.items in
+    let half = c.write_labels.new.text.items in
+    let number = spelled_number c.args.value.now in
+    behind_again c.args.text.now.items begun _ (102 ∷ []) _ c.in_ok-push.ensures.items
+    (behind_again begun half _ (32 ∷ (name at.a ++ 32 ∷ (name at.b ++ 32 ∷ name at.c))) _ c.in_ok-write_labels.ensures
+    (behind_again half c.write_labels-2.new.text.items _ (32 ∷ (name at.d ++ 32 ∷ (name at.e ++ 32 ∷ name at.f))) (32 ∷ (number ++ 10 ∷ [])) c.in_ok-write_labels-2.ensures c.in_ok-write_value.ensures))
+    ∙ ap (λ w. c.args.text.now.items ++ 102 ∷ w) (six_names (name at.a) (name at.b) (name at.c) (name at.d) (name at.e) (name at.f) number (10 ∷ []))

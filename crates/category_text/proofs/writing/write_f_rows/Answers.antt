@@ -1,0 +1,10 @@
+use Rattle.std.proofs.Common.{ℕ, ◌∙◌, length, arith}
+use Rattle.symbol_table.specs.Index.{v_index}
+use Rattle.category_text.specs.Named.{seen}
+use Rattle.category_text.specs.Writing.{behind_text}
+use Rattle.category_text.proofs.WritingLemmas.{texts_more}
+use Rattle.category_text.proofs.writing.write_f_rows.Goals as goal
+
+pub loop-c-preserved : goal.loop-c-preserved
+loop-c-preserved c =
+    texts_more (λ (k : ℕ). behind_text (seen c.args.named.now) (v_index c.args.a c.args.b k)) c.loop-c.c (length c.args.named.now.names) c.loop-c.text.items c.write_group.new.text.items c.in_ok-write_group.ensures (omega arith) ∙ c.loop-c.invariant

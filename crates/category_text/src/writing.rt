@@ -1,0 +1,341 @@
+ghost use Rattle.std.specs.Prelude.{◌≡◌, ◌<◌, ◌++◌, ◌∷◌, [], IsTrue, IfOk, OnOk, OnErr, length};
+ghost use Rattle.line_text.specs.Spelling.{spelled};
+ghost use Rattle.cyclo_core.specs.Ratio.{ring_at};
+ghost use Rattle.cyclo_text.specs.NumberWords.{spelled_number};
+ghost use Rattle.fusion_rules.specs.Fusion.{fuses};
+ghost use Rattle.symbol_table.specs.Index.{AreSixLabels, AreThreeLabels};
+ghost use Rattle.category_text.specs.Named.{seen};
+ghost use Rattle.category_text.specs.Canonical.{behind, canonical, f_words, head_lines, is_one, kind_word, name_of, vertex_value};
+ghost use Rattle.category_text.specs.Writing.{GroupBelow, behind_text, f_text, fuse_text, group_text, names_text, plane, row, space, vertex_text, written};
+
+use crate::kind::{Group, VertexKind};
+use crate::named::Named;
+use cyclo_core::{Cyclo, Number};
+use cyclo_text::write_number;
+use fusion_rules::Names;
+use itoa::Buffer;
+use ring_laws::StarRing;
+use std::alloc::{AllocError, Global};
+use symbol_table::{FIndex, VIndex};
+
+/// Appends the canonical text of a category: the lines `category 1`, `root N` and `labels` with the names, all
+/// triples whose first two labels aren't the unit, and the values of F, R, w and v that aren't 1 at their admissible
+/// indices. Each of these five groups stands in the order of its label numbers.
+///
+/// Asks for as many names as the rules have labels. Only want of memory refuses it, and `out` is then unchanged.
+pub fn write_category(alloc: Global, named: &Named, out: &mut Vec<u8>) -> Result<(), AllocError>
+    requires { length named.now.names ≡ named.now.draft.rules.count }
+    ensures written { OnOk result (out.new.items ≡ out.old.items ++ canonical (seen named.now)) }
+    ensures unchanged { OnErr result (out.new.items ≡ out.old.items) }
+{
+    let text = whole_text(alloc, named)?;
+    out.extend_from_slice(&text)
+}
+
+fn whole_text(alloc: Global, named: &Named) -> Result<Vec<u8>, AllocError>
+    requires { length named.now.names ≡ named.now.draft.rules.count }
+    ensures { IfOk result (λ text. text.items ≡ canonical (seen named.now)) }
+{
+    let mut text = Vec::new(alloc);
+    write_head(named, &mut text)?;
+    write_group(alloc, named, Group::Fusions, &mut text)?;
+    write_f_groups(alloc, named, &mut text)?;
+    write_group(alloc, named, Group::Vertices(VertexKind::OnR), &mut text)?;
+    write_group(alloc, named, Group::Vertices(VertexKind::OnW), &mut text)?;
+    write_group(alloc, named, Group::Vertices(VertexKind::OnV), &mut text)?;
+    Ok(text)
+}
+
+/// Appends the first three lines.
+fn write_head(named: &Named, text: &mut Vec<u8>) -> Result<(), AllocError>
+    ensures { OnOk result (text.new.items ≡ text.old.items ++ spelled (head_lines (seen named.now))) }
+{
+    text.extend_from_slice(b"category 1\nroot ")?;
+    text.extend_from_slice(Buffer::new().format(named.draft.ring().root()).as_bytes())?;
+    text.extend_from_slice(b"\nlabels")?;
+    write_names(&named.names, text)?;
+    text.push(b'\n')?;
+    Ok(())
+}
+
+/// Appends all names, each behind a space.
+fn write_names(names: &Names, text: &mut Vec<u8>) -> Result<(), AllocError>
+    ensures { OnOk result (text.new.items ≡ text.old.items ++ names_text names.now) }
+{
+    for label in 0..names.count() {
+        write_word(names.name(label).as_bytes(), text)?;
+    }
+    Ok(())
+}
+
+/// Appends the F lines, for all first three labels.
+fn write_f_groups(alloc: Global, named: &Named, text: &mut Vec<u8>) -> Result<(), AllocError>
+    requires { length named.now.names ≡ named.now.draft.rules.count }
+    ensures { OnOk result (text.new.items ≡ text.old.items ++ space named.now.draft.rules.count (behind_text (seen named.now))) }
+{
+    for a in 0..named.names.count() {
+        write_f_planes(alloc, named, a, text)?;
+    }
+    Ok(())
+}
+
+fn write_f_planes(alloc: Global, named: &Named, a: u8, text: &mut Vec<u8>) -> Result<(), AllocError>
+    requires names { length named.now.names ≡ named.now.draft.rules.count }
+    requires first { a < named.now.draft.rules.count }
+    ensures { OnOk result (text.new.items ≡ text.old.items ++ plane named.now.draft.rules.count (behind_text (seen named.now)) a) }
+{
+    for b in 0..named.names.count() {
+        write_f_rows(alloc, named, a, b, text)?;
+    }
+    Ok(())
+}
+
+fn write_f_rows(
+    alloc: Global,
+    named: &Named,
+    a: u8,
+    b: u8,
+    text: &mut Vec<u8>,
+) -> Result<(), AllocError>
+    requires names { length named.now.names ≡ named.now.draft.rules.count }
+    requires first { a < named.now.draft.rules.count }
+    requires second { b < named.now.draft.rules.count }
+    ensures { OnOk result (text.new.items ≡ text.old.items ++ row named.now.draft.rules.count (behind_text (seen named.now)) a b) }
+{
+    for c in 0..named.names.count() {
+        write_group(alloc, named, Group::FBehind(VIndex { a, b, c }), text)?;
+    }
+    Ok(())
+}
+
+/// Appends the lines of a group, for all three labels.
+fn write_group(
+    alloc: Global,
+    named: &Named,
+    group: Group,
+    text: &mut Vec<u8>,
+) -> Result<(), AllocError>
+    requires names { length named.now.names ≡ named.now.draft.rules.count }
+    requires below { GroupBelow named.now.draft.rules.count group }
+    ensures { OnOk result (text.new.items ≡ text.old.items ++ space named.now.draft.rules.count (group_text (seen named.now) group)) }
+{
+    for a in 0..named.names.count() {
+        write_plane(alloc, named, group, a, text)?;
+    }
+    Ok(())
+}
+
+fn write_plane(
+    alloc: Global,
+    named: &Named,
+    group: Group,
+    a: u8,
+    text: &mut Vec<u8>,
+) -> Result<(), AllocError>
+    requires names { length named.now.names ≡ named.now.draft.rules.count }
+    requires below { GroupBelow named.now.draft.rules.count group }
+    requires first { a < named.now.draft.rules.count }
+    ensures { OnOk result (text.new.items ≡ text.old.items ++ plane named.now.draft.rules.count (group_text (seen named.now) group) a) }
+{
+    for b in 0..named.names.count() {
+        write_row(alloc, named, group, a, b, text)?;
+    }
+    Ok(())
+}
+
+fn write_row(
+    alloc: Global,
+    named: &Named,
+    group: Group,
+    a: u8,
+    b: u8,
+    text: &mut Vec<u8>,
+) -> Result<(), AllocError>
+    requires names { length named.now.names ≡ named.now.draft.rules.count }
+    requires below { GroupBelow named.now.draft.rules.count group }
+    requires first { a < named.now.draft.rules.count }
+    requires second { b < named.now.draft.rules.count }
+    ensures { OnOk result (text.new.items ≡ text.old.items ++ row named.now.draft.rules.count (group_text (seen named.now) group) a b) }
+{
+    for c in 0..named.names.count() {
+        write_line(alloc, named, group, VIndex { a, b, c }, text)?;
+    }
+    Ok(())
+}
+
+/// Appends the line of three labels, where they have one.
+fn write_line(
+    alloc: Global,
+    named: &Named,
+    group: Group,
+    at: VIndex,
+    text: &mut Vec<u8>,
+) -> Result<(), AllocError>
+    requires names { length named.now.names ≡ named.now.draft.rules.count }
+    requires below { GroupBelow named.now.draft.rules.count group }
+    requires labels { AreThreeLabels named.now.draft.rules.count at.a at.b at.c }
+    ensures { OnOk result (text.new.items ≡ text.old.items ++ group_text (seen named.now) group at) }
+{
+    match group {
+        Group::Fusions => write_fuse(named, at, text),
+        Group::Vertices(kind) => write_vertex(alloc, named, kind, at, text),
+        Group::FBehind(first) => write_f(alloc, named, first, at, text),
+    }
+}
+
+/// Appends the line of a triple whose first two labels aren't the unit.
+fn write_fuse(named: &Named, at: VIndex, text: &mut Vec<u8>) -> Result<(), AllocError>
+    requires names { length named.now.names ≡ named.now.draft.rules.count }
+    requires labels { AreThreeLabels named.now.draft.rules.count at.a at.b at.c }
+    ensures { OnOk result (text.new.items ≡ text.old.items ++ fuse_text (seen named.now) at) }
+{
+    if at.a == 0 || at.b == 0 || !named.draft.rules().allows(at.a, at.b, at.c) {
+        return Ok(());
+    }
+    text.extend_from_slice(b"fuse")?;
+    write_labels(&named.names, at, text)?;
+    text.push(b'\n')?;
+    Ok(())
+}
+
+/// Appends the line of a symbol of a vertex, where it is admissible and isn't 1.
+fn write_vertex(
+    alloc: Global,
+    named: &Named,
+    kind: VertexKind,
+    at: VIndex,
+    text: &mut Vec<u8>,
+) -> Result<(), AllocError>
+    requires names { length named.now.names ≡ named.now.draft.rules.count }
+    requires labels { AreThreeLabels named.now.draft.rules.count at.a at.b at.c }
+    ensures { OnOk result (text.new.items ≡ text.old.items ++ vertex_text (seen named.now) kind at) }
+{
+    if !named.draft.rules().allows(at.a, at.b, at.c) {
+        return Ok(());
+    }
+    let value = vertex_value(named, kind, at);
+    if is_one(named.draft.ring(), &value) {
+        return Ok(());
+    }
+    text.extend_from_slice(kind_word(kind))?;
+    write_labels(&named.names, at, text)?;
+    write_value(alloc, &value, text)
+}
+
+/// Appends the line of F, where it is admissible and isn't 1.
+fn write_f(
+    alloc: Global,
+    named: &Named,
+    first: VIndex,
+    last: VIndex,
+    text: &mut Vec<u8>,
+) -> Result<(), AllocError>
+    requires names { length named.now.names ≡ named.now.draft.rules.count }
+    requires first { AreThreeLabels named.now.draft.rules.count first.a first.b first.c }
+    requires last { AreThreeLabels named.now.draft.rules.count last.a last.b last.c }
+    ensures { OnOk result (text.new.items ≡ text.old.items ++ f_text (seen named.now) (behind first last)) }
+{
+    let at = FIndex {
+        a: first.a,
+        b: first.b,
+        c: first.c,
+        d: last.a,
+        e: last.b,
+        f: last.c,
+    };
+    if !at.is_admissible(named.draft.rules()) {
+        return Ok(());
+    }
+    let value = named.draft.f(&at);
+    if is_one(named.draft.ring(), &value) {
+        return Ok(());
+    }
+    write_f_line(alloc, &named.names, &at, &value, text)?;
+    Ok(())
+}
+
+/// Appends the line of F with these labels and this value.
+fn write_f_line(
+    alloc: Global,
+    names: &Names,
+    at: &FIndex,
+    value: &Number,
+    text: &mut Vec<u8>,
+) -> Result<(), AllocError>
+    requires { AreSixLabels (length names.now) at.now.a at.now.b at.now.c at.now.d at.now.e at.now.f }
+    ensures { OnOk result (text.new.items ≡ text.old.items ++ spelled (f_words names.now at.now value.now ∷ [])) }
+{
+    let first = VIndex {
+        a: at.a,
+        b: at.b,
+        c: at.c,
+    };
+    let last = VIndex {
+        a: at.d,
+        b: at.e,
+        c: at.f,
+    };
+    text.push(b'f')?;
+    write_labels(names, first, text)?;
+    write_labels(names, last, text)?;
+    write_value(alloc, value, text)?;
+    Ok(())
+}
+
+fn kind_word(kind: VertexKind) -> &'static [u8]
+    ensures { result.now ≡ kind_word kind }
+{
+    match kind {
+        VertexKind::OnR => b"r",
+        VertexKind::OnW => b"w",
+        VertexKind::OnV => b"v",
+    }
+}
+
+/// The value of a symbol at an admissible index.
+fn vertex_value(named: &Named, kind: VertexKind, at: VIndex) -> Number
+    requires { IsTrue (fuses named.now.draft.rules at.a at.b at.c) }
+    ensures value { result ≡ vertex_value (seen named.now) kind at }
+    ensures member { IsTrue ((ring_at named.now.draft.ring).member result) }
+{
+    match kind {
+        VertexKind::OnR => named.draft.r(&at),
+        VertexKind::OnW => named.draft.w(&at),
+        VertexKind::OnV => named.draft.v(&at),
+    }
+}
+
+fn is_one(ring: &Cyclo, value: &Number) -> bool
+    requires { IsTrue ((ring_at ring.now).member value.now) }
+    ensures { result ≡ is_one ring.now value.now }
+{
+    ring.same(value, &ring.one())
+}
+
+/// Appends three names, each behind a space.
+fn write_labels(names: &Names, at: VIndex, text: &mut Vec<u8>) -> Result<(), AllocError>
+    requires { AreThreeLabels (length names.now) at.a at.b at.c }
+    ensures { OnOk result (text.new.items ≡ text.old.items ++ 32 ∷ (name_of names.now at.a ++ 32 ∷ (name_of names.now at.b ++ 32 ∷ name_of names.now at.c))) }
+{
+    write_word(names.name(at.a).as_bytes(), text)?;
+    write_word(names.name(at.b).as_bytes(), text)?;
+    write_word(names.name(at.c).as_bytes(), text)
+}
+
+/// Appends a space and a word.
+fn write_word(word: &[u8], text: &mut Vec<u8>) -> Result<(), AllocError>
+    ensures { OnOk result (text.new.items ≡ text.old.items ++ 32 ∷ word.now) }
+{
+    text.push(b' ')?;
+    text.extend_from_slice(word)
+}
+
+/// Appends a space, a number and the end of the line.
+fn write_value(alloc: Global, value: &Number, text: &mut Vec<u8>) -> Result<(), AllocError>
+    ensures { OnOk result (text.new.items ≡ text.old.items ++ 32 ∷ (spelled_number value.now ++ 10 ∷ [])) }
+{
+    text.push(b' ')?;
+    write_number(alloc, value, text)?;
+    text.push(b'\n')?;
+    Ok(())
+}
