@@ -22,6 +22,7 @@ pub record Symbols (E : Type 0) : Type 0 where
   pub r : ℕ → ℕ → ℕ → E
   pub s : ℕ → ℕ → ℕ → E
   pub w : ℕ → ℕ → ℕ → E
+  pub v : ℕ → ℕ → ℕ → E
 
 -- F(a,b,c,d;e,f) is admissible where its four vertices are.
 abbrev pub f_admissible : (ℕ → ℕ → ℕ → Bool) → ℕ → ℕ → ℕ → ℕ → ℕ → ℕ → Bool
@@ -66,4 +67,5 @@ symbols_of ring held g = record {
   r = vertex_of ring g g.set_r;
   s = s_of ring g;
   w = vertex_of ring g g.set_w;
+  v = vertex_of ring g g.set_v;
 }

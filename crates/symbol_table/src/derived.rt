@@ -1,7 +1,8 @@
 ghost use Rattle.std.specs.Prelude.{◌≡◌, [], IsSomeAnd, IsTrue, OnOk, OnErr};
+ghost use Rattle.fusion_rules.specs.Fusion.{fuses};
 ghost use Rattle.symbol_table.specs.Index.{AreSixLabels, AreThreeLabels};
 ghost use Rattle.symbol_table.specs.Symbols.{h_of, s_of};
-ghost use Rattle.symbol_table.specs.Draft.{SetsVertex, given};
+ghost use Rattle.symbol_table.specs.Draft.{SetsVertex, f_index_admissible, given};
 ghost use Rattle.symbol_table.specs.Derived.{DerivedValue, HoldsSymbols, PutsH, h_put, s_put, with_h, with_s};
 
 use crate::draft::Draft;
@@ -81,6 +82,30 @@ impl<R: StarRing> Derived<R> {
         copy_found(ring, self.s.get(at))
     }
 
+    /// H(a,b,c,d;f,e) of a draft at the admissible index of F(a,b,c,d;e,f). Asks that the derived values are those
+    /// of the draft.
+    pub fn h_in(&self, draft: &Draft<R>, at: &FIndex) -> R::Elem
+        requires admissible { IsTrue (f_index_admissible (given draft.now) at.now) }
+        requires holds { HoldsSymbols (R.ring draft.now.ring) (given draft.now) self.now }
+        ensures value { result ≡ h_of (R.ring draft.now.ring) (given draft.now) at.now.a at.now.b at.now.c
+            at.now.d at.now.f at.now.e }
+        ensures member { IsTrue ((R.ring draft.now.ring).member result) }
+        ensures held { IsTrue (R.held.can_hold result) }
+    {
+        self.h(draft.ring(), at)
+    }
+
+    /// S(a,b,c) of a draft at an admissible index. Asks that the derived values are those of the draft.
+    pub fn s_in(&self, draft: &Draft<R>, at: &VIndex) -> R::Elem
+        requires admissible { IsTrue (fuses draft.now.rules at.now.a at.now.b at.now.c) }
+        requires holds { HoldsSymbols (R.ring draft.now.ring) (given draft.now) self.now }
+        ensures value { result ≡ s_of (R.ring draft.now.ring) (given draft.now) at.now.a at.now.b at.now.c }
+        ensures member { IsTrue ((R.ring draft.now.ring).member result) }
+        ensures held { IsTrue (R.held.can_hold result) }
+    {
+        self.s(draft.ring(), at)
+    }
+
     /// H(a,b,c,d;f,e) of a draft at any six labels below the count: 0 where F(a,b,c,d;e,f) isn't admissible.
     /// Asks that the derived values are those of the draft.
     pub fn h_at(&self, draft: &Draft<R>, a: u8, b: u8, c: u8, d: u8, f: u8, e: u8) -> R::Elem
@@ -94,7 +119,7 @@ impl<R: StarRing> Derived<R> {
         if !at.is_admissible(draft.rules()) {
             return draft.ring().zero();
         }
-        self.h(draft.ring(), &at)
+        self.h_in(draft, &at)
     }
 
     /// S(a,b,c) of a draft at any three labels below the count: 0 where they aren't admissible. Asks that the
@@ -109,6 +134,6 @@ impl<R: StarRing> Derived<R> {
         if !draft.rules().allows(a, b, c) {
             return draft.ring().zero();
         }
-        self.s(draft.ring(), &VIndex { a, b, c })
+        self.s_in(draft, &VIndex { a, b, c })
     }
 }

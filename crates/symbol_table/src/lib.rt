@@ -6,24 +6,31 @@
 //!
 //! Glossary:
 //! - *given*: which triples fuse, and which values were set (`specs/Symbols.antt`).
-//! - *symbols*: F, H, R, S and w at all labels: 1 where an admissible index wasn't set, 0 where an index
+//! - *symbols*: F, H, R, S, w and v at all labels: 1 where an admissible index wasn't set, 0 where an index
 //!   isn't admissible (`specs/Symbols.antt`).
 //! - *stated H and S*: their evaluation from the left, which stops where an item doesn't fit
 //!   (`specs/Evaluated.antt`).
 //! - *draft*: the ring, the rules and the set values, in the order of their indices (`specs/Draft.antt`).
 //! - *derived*: the values of H and S that were put, and whether they are those of a draft
 //!   (`specs/Derived.antt`).
+//! - *law*: its indices as data, and its equation (`specs/Laws.antt`).
+//! - *lawful*: the rules pass and every equation of every law is true (`specs/Laws.antt`).
+//! - *category*: a lawful draft with its H and S (`specs/Category.antt`).
 //! - *index*: the labels of a symbol, and their order (`specs/Index.antt`).
 #![tactic(auto)]
 
+mod category;
 mod derived;
 mod draft;
 mod index;
+mod law;
 mod values;
 
+pub use category::Category;
 pub use derived::Derived;
 pub use draft::{Draft, SetFault};
 pub use index::{FIndex, VIndex};
+pub use law::{Event, Kind, Labels, Law, Triple};
 
 #[cfg(test)]
 mod tests;

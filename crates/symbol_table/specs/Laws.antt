@@ -1,0 +1,164 @@
+-- The laws of a braided fusion category: the indices of each, and its equation over ring values.
+use Rattle.std.specs.Prelude.{◌≡◌, ◌≢◌, ℕ, ◌<◌, Bool, true, ◌&&◌, ◌||◌, ◌==◌, List, [], ◌∷◌, All, length, slice_index, if◌then◌else◌}
+use Rattle.ring_laws.specs.Ring.{Ring}
+use Rattle.ring_laws.specs.Sums.{total}
+use Rattle.fusion_rules.specs.Check.{RulesPass, dual_of}
+use Rattle.symbol_table.specs.Symbols.{Symbols}
+use Rattle.symbol_table.specs.declared.law.Law.{Law}
+use Rattle.symbol_table.specs.declared.law.Law.TheVariants.{UnitF, UnitR, UnitW, RealW, InverseW, NormR, DeriveH, DeriveS, InverseF, InverseH, Rigid, Pentagon, HexagonOne, HexagonTwo}
+use Rattle.symbol_table.specs.declared.law.Triple.{Triple}
+
+-- How many labels an index of a law has, and at which places three of them have to fuse.
+pub record Form : Type 0 where
+  pub places : ℕ
+  pub triples : List Triple
+
+abbrev pub fuse_at : ℕ → ℕ → ℕ → Triple
+fuse_at a b c = record { a = a; b = b; c = c }
+
+abbrev pub vertex_form : Form
+vertex_form = record { places = 3; triples = fuse_at 0 1 2 ∷ [] }
+
+-- a b c d e f, with N(a,b,e), N(e,c,d), N(c,a,f), N(b,f,d)
+abbrev pub hexagon_form : Form
+hexagon_form = record { places = 6; triples = fuse_at 0 1 4 ∷ fuse_at 4 2 3 ∷ fuse_at 2 0 5 ∷ fuse_at 1 5 3 ∷ [] }
+
+abbrev pub form_of : Law → Form
+-- a b c d e f, where F(a,b,c,d;e,f) is admissible
+form_of UnitF = record { places = 6; triples = fuse_at 0 1 4 ∷ fuse_at 4 2 3 ∷ fuse_at 1 2 5 ∷ fuse_at 0 5 3 ∷ [] }
+form_of UnitR = vertex_form
+form_of UnitW = vertex_form
+form_of RealW = vertex_form
+form_of InverseW = vertex_form
+form_of NormR = vertex_form
+-- a b c d f e, where F(a,b,c,d;e,f) is admissible
+form_of DeriveH = record { places = 6; triples = fuse_at 0 1 5 ∷ fuse_at 5 2 3 ∷ fuse_at 1 2 4 ∷ fuse_at 0 4 3 ∷ [] }
+form_of DeriveS = vertex_form
+-- a b c d e g, with N(a,b,e), N(e,c,d), N(a,b,g), N(g,c,d)
+form_of InverseF = record { places = 6; triples = fuse_at 0 1 4 ∷ fuse_at 4 2 3 ∷ fuse_at 0 1 5 ∷ fuse_at 5 2 3 ∷ [] }
+-- a b c d f g, with N(b,c,f), N(a,f,d), N(b,c,g), N(a,g,d)
+form_of InverseH = record { places = 6; triples = fuse_at 1 2 4 ∷ fuse_at 0 4 3 ∷ fuse_at 1 2 5 ∷ fuse_at 0 5 3 ∷ [] }
+form_of Rigid = record { places = 1; triples = [] }
+-- p l m r x y z f q, with N(p,l,x), N(x,m,y), N(y,r,z), N(m,r,f), N(l,f,q), N(p,q,z)
+form_of Pentagon =
+    record { places = 9; triples = fuse_at 0 1 4 ∷ fuse_at 4 2 5 ∷ fuse_at 5 3 6 ∷ fuse_at 2 3 7 ∷ fuse_at 1 7 8 ∷ fuse_at 0 8 6 ∷ [] }
+form_of HexagonOne = hexagon_form
+form_of HexagonTwo = hexagon_form
+
+-- the labels at three places of an index fuse
+abbrev pub fuses_at : (ℕ → ℕ → ℕ → Bool) → List ℕ → Triple → Bool
+fuses_at fuse index t = fuse (slice_index index t.a) (slice_index index t.b) (slice_index index t.c)
+
+-- an index is admissible where the labels fuse at each of the law's triples
+abbrev pub fuse_all : (ℕ → ℕ → ℕ → Bool) → List ℕ → List Triple → Bool
+fuse_all fuse index [] = true
+fuse_all fuse index (t ∷ ts) = fuses_at fuse index t && fuse_all fuse index ts
+
+-- a function of labels at those of an index
+abbrev pub at1 {ℓ} : {A : Type ℓ} → (ℕ → A) → List ℕ → A
+at1 g i = g (slice_index i 0)
+
+abbrev pub at3 {ℓ} : {A : Type ℓ} → (ℕ → ℕ → ℕ → A) → List ℕ → A
+at3 g i = g (slice_index i 0) (slice_index i 1) (slice_index i 2)
+
+abbrev pub at6 {ℓ} : {A : Type ℓ} → (ℕ → ℕ → ℕ → ℕ → ℕ → ℕ → A) → List ℕ → A
+at6 g i = g (slice_index i 0) (slice_index i 1) (slice_index i 2) (slice_index i 3) (slice_index i 4) (slice_index i 5)
+
+abbrev pub at9 {ℓ} : {A : Type ℓ} → (ℕ → ℕ → ℕ → ℕ → ℕ → ℕ → ℕ → ℕ → ℕ → A) → List ℕ → A
+at9 g i =
+    g (slice_index i 0) (slice_index i 1) (slice_index i 2) (slice_index i 3) (slice_index i 4) (slice_index i 5) (slice_index i 6) (slice_index i 7) (slice_index i 8)
+
+-- What a law says at an index: two ring values are the same, a value isn't zero, or nothing.
+pub data Equation (E : Type 0) : Type 0 where
+  Same : (left right : E) → Equation E
+  NotZero : (value : E) → Equation E
+  Free : Equation E
+
+abbrev pub Holds : {E : Type 0} → Ring E → Equation E → Type 0
+Holds r (Same left right) = left ≡ right
+Holds r (NotZero value) = value ≢ r.zero
+Holds r Free = Unit {0}
+
+-- what is said of some indices alone
+abbrev pub where_so : {E : Type 0} → Bool → Equation E → Equation E
+where_so so equation = if so then equation else Free
+
+module _ {E : Type 0} (c : Symbols E) where
+  abbrev times : E → E → E
+  times = c.ring.product
+
+  -- 1 where two labels are the same, else 0
+  abbrev pub identity_at : ℕ → ℕ → E
+  identity_at e g = if e == g then c.ring.one else c.ring.zero
+
+  -- F(a,b,c,d;e,f) = 1 where a, b or c is the unit
+  abbrev pub unit_f_says : ℕ → ℕ → ℕ → ℕ → ℕ → ℕ → Equation E
+  unit_f_says a b k d e f = where_so (a == 0 || (b == 0 || k == 0)) (Same (c.f a b k d e f) c.ring.one)
+
+  -- a symbol of a vertex is 1 where a or b is the unit
+  abbrev pub unit_says : (ℕ → ℕ → ℕ → E) → ℕ → ℕ → ℕ → Equation E
+  unit_says symbol a b k = where_so (a == 0 || b == 0) (Same (symbol a b k) c.ring.one)
+
+  -- conj(w(a,b,c)) = w(a,b,c)
+  abbrev pub real_w_says : ℕ → ℕ → ℕ → Equation E
+  real_w_says a b k = Same (c.ring.conjugate (c.w a b k)) (c.w a b k)
+
+  -- w(a,b,c) v(a,b,c) = 1
+  abbrev pub inverse_w_says : ℕ → ℕ → ℕ → Equation E
+  inverse_w_says a b k = Same (times (c.w a b k) (c.v a b k)) c.ring.one
+
+  -- R(a,b,c) conj(R(a,b,c)) w(b,a,c) = w(a,b,c)
+  abbrev pub norm_r_says : ℕ → ℕ → ℕ → Equation E
+  norm_r_says a b k = Same (times (times (c.r a b k) (c.ring.conjugate (c.r a b k))) (c.w b a k)) (c.w a b k)
+
+  -- sum over f of F(a,b,c,d;e,f) H(a,b,c,d;f,g) = 1 where e = g, else 0
+  abbrev pub inverse_f_says : ℕ → ℕ → ℕ → ℕ → ℕ → ℕ → Equation E
+  inverse_f_says a b k d e g = Same (total c.ring c.count (λ f. times (c.f a b k d e f) (c.h a b k d f g))) (identity_at e g)
+
+  -- sum over e of H(a,b,c,d;f,e) F(a,b,c,d;e,g) = 1 where f = g, else 0
+  abbrev pub inverse_h_says : ℕ → ℕ → ℕ → ℕ → ℕ → ℕ → Equation E
+  inverse_h_says a b k d f g = Same (total c.ring c.count (λ e. times (c.h a b k d f e) (c.f a b k d e g))) (identity_at f g)
+
+  -- F(a,a*,a,a;1,1) isn't 0, with a* the dual of a
+  abbrev pub rigid_says : ℕ → Equation E
+  rigid_says a = NotZero (c.f a (dual_of c.count c.fuse a) a a 0 0)
+
+  -- F(x,m,r,z;y,f) F(p,l,f,z;x,q) = sum over e of F(p,l,m,y;x,e) F(p,e,r,z;y,q) F(l,m,r,q;e,f)
+  abbrev pub pentagon_says : ℕ → ℕ → ℕ → ℕ → ℕ → ℕ → ℕ → ℕ → ℕ → Equation E
+  pentagon_says p l m r x y z f q =
+      Same (times (c.f x m r z y f) (c.f p l f z x q))
+      (total c.ring c.count (λ e. times (times (c.f p l m y x e) (c.f p e r z y q)) (c.f l m r q e f)))
+
+  -- X(a,b,e) F(b,a,c,d;e,f) X(a,c,f) = sum over g of F(a,b,c,d;e,g) X(a,g,d) F(b,c,a,d;g,f), with X for R or for S
+  abbrev pub hexagon_says : (ℕ → ℕ → ℕ → E) → ℕ → ℕ → ℕ → ℕ → ℕ → ℕ → Equation E
+  hexagon_says exchange a b k d e f =
+      Same (times (times (exchange a b e) (c.f b a k d e f)) (exchange a k f))
+      (total c.ring c.count (λ g. times (times (c.f a b k d e g) (exchange a g d)) (c.f b k a d g f)))
+
+  -- H and S are formulas of their own; deriving them is no equation
+  abbrev pub equation_of : Law → List ℕ → Equation E
+  equation_of UnitF = at6 unit_f_says
+  equation_of UnitR = at3 (unit_says c.r)
+  equation_of UnitW = at3 (unit_says c.w)
+  equation_of RealW = at3 real_w_says
+  equation_of InverseW = at3 inverse_w_says
+  equation_of NormR = at3 norm_r_says
+  equation_of DeriveH = λ i. Free
+  equation_of DeriveS = λ i. Free
+  equation_of InverseF = at6 inverse_f_says
+  equation_of InverseH = at6 inverse_h_says
+  equation_of Rigid = at1 rigid_says
+  equation_of Pentagon = at9 pentagon_says
+  equation_of HexagonOne = at6 (hexagon_says c.r)
+  equation_of HexagonTwo = at6 (hexagon_says c.s)
+
+  -- the equation of a law is true at every index
+  abbrev pub LawHolds : Law → Type 0
+  LawHolds law =
+      (i : List ℕ) → length i ≡ (form_of law).places → All (λ t. t < c.count) i → fuse_all c.fuse i (form_of law).triples ≡ true
+      → Holds c.ring (equation_of law i)
+
+  -- The rules pass, and every equation of every law is true. There is no order here, and no early end.
+  pub record IsLawful : Type 0 where
+    pub rules : RulesPass c.count c.fuse
+    pub laws : (law : Law) → LawHolds law
