@@ -1,0 +1,17 @@
+//! The laws of a category checked index by index: the first event, and what it says.
+//!
+//! Glossary:
+//! - *verdict*: what is wrong with a law at an admissible index: an item of its stated evaluation doesn't fit,
+//!   or its equation is false (`specs/Sides.antt`).
+//! - *first event*: the first index, in the order of the labels, whose verdict isn't that all is well
+//!   (`specs/First.antt`); of several laws, that of the first law that has one (`specs/Sides.antt`).
+//! - *judge*: a law together with what it is judged on ([`Judge`]).
+//!
+//! Source of the laws: Kitaev 2006, Appendix E. Their order and their stated evaluation: `docs/FORMATS.md`.
+#![tactic(auto)]
+
+mod items;
+mod judge;
+
+pub use items::{add_product3, compare, product3};
+pub use judge::{Judge, first};
