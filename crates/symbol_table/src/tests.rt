@@ -80,6 +80,6 @@ fn laws_as_data(rt: HostRuntime) -> Result<(), Fail> {
     assert_eq!(rt; Law::Pentagon.places(), 9);
     assert_eq!(rt; Law::Pentagon.triples()[3], Triple { a: 2, b: 3, c: 7 });
     let labels = Labels::new().with(4).with(7);
-    assert_eq!(rt; labels.as_slice(), &[4, 7]);
+    assert_eq!(rt; labels.as_slice(), [4u8, 7].as_slice());
     Ok(())
 }
