@@ -1,10 +1,9 @@
 -- What decides about a category.
-use Rattle.std.proofs.Common.{◌≡◌, ℕ, List, Option, Some, None, Err, Ok, ap, ◌∙◌}
+use Rattle.std.proofs.Common.{◌≡◌, ℕ, List, Option, ap, ◌∙◌}
 use Rattle.std.specs.Prelude.{option_and_then, option_map}
 use Rattle.std.specs.Option.{option_or}
 use Rattle.fusion_rules.specs.declared.rules.RulesFault.{RulesFault}
 use Rattle.derive_symbols.specs.declared.DeriveFault.{DeriveFault}
-use Rattle.anyon_app.specs.Replies.{Reply}
 use Rattle.anyon_app.specs.Refusals.{rules_line}
 use Rattle.anyon_app.specs.Comb.{count_line, derive_line, unless}
 

@@ -1,13 +1,13 @@
 -- Stages make a command.
-use Rattle.std.proofs.Common.{◌≡◌, ◌⊎◌, inl, inr, ℕ, ◌<◌, ◌≤◌, List, length, true, false, Option, Some, None, Result, Ok, Err, Vec, Global, refl, sym, ap, subst, ◌∙◌, arith, nat_lt, if◌then◌else◌}
+use Rattle.std.proofs.Common.{◌≡◌, inl, inr, ℕ, ◌≤◌, List, length, true, false, Option, Some, Result, Ok, Err, Vec, Global, refl, sym, ap, subst, ◌∙◌, arith, nat_lt, if◌then◌else◌}
 use Rattle.std.proofs.lemmas.Bool.Decides.{nat_tests}
 use Rattle.std.specs.Option.{option_and_then}
-use Rattle.io_ports.specs.Ports.{Files, Rose, WhereTold}
+use Rattle.io_ports.specs.Ports.{Files, Rose}
 use Rattle.anyon_app.specs.declared.stop.Stop.{Stop}
 use Rattle.anyon_app.specs.declared.stop.Stop.TheVariants.{RefusalLine, LimitLine, Unread, OutOfMemory}
 use Rattle.anyon_app.specs.Replies.{Reply, done, refused, limited}
-use Rattle.anyon_app.specs.Work.{Work, Says, Wants, reply_of, Reaches, Names, Decides, text_limit, text_work, judged, read_work}
-use Rattle.anyon_app.specs.Stages.{Loads, Worked, Passes, Gives, GivesUp, StopsWith, stop_reply, reply_in}
+use Rattle.anyon_app.specs.Work.{Work, Says, reply_of, Reaches, Names, text_limit, text_work, judged, read_work}
+use Rattle.anyon_app.specs.Stages.{Loads, Worked, Passes, Gives, GivesUp, StopsWith, reply_in}
 
 -- a stop with a reply gives up what is stated to be this reply
 pub gives_up : {T : Type 0} (reply : Reply) (stop : Stop) (stated : Result T Reply) → stated ≡ Err reply → StopsWith reply stop → GivesUp stop stated

@@ -8,7 +8,6 @@ use Rattle.derive_symbols.specs.Stop.{derive_stop}
 use Rattle.derive_symbols.specs.declared.DeriveFault.{DeriveFault}
 use Rattle.derive_symbols.specs.declared.DeriveFault.TheVariants.{H, S, Memory}
 use Rattle.category_text.specs.Named.{NamedSymbols}
-use Rattle.category_text.specs.Reading.{Fault, category_of}
 use Rattle.program_text.specs.Program.{Program}
 use Rattle.program_text.specs.Reading.{comb_program_of}
 use Rattle.comb_laws.specs.Comb.{commands_of}
@@ -16,17 +15,10 @@ use Rattle.comb_laws.specs.Plans.{Outcomes, outcomes_of}
 use Rattle.comb_laws.specs.Evaluated.{evaluation_of}
 use Rattle.anyon_app.specs.declared.texts.Kind.TheVariants.{Category, Program as ProgramText}
 use Rattle.anyon_app.specs.Replies.{Reply, done}
-use Rattle.anyon_app.specs.Refusals.{too_long, category_line, category_not_built, rules_line, h_overflow, s_overflow, program_not_built, turn_overflow}
+use Rattle.anyon_app.specs.Refusals.{too_long, category_not_built, rules_line, h_overflow, s_overflow, program_not_built, turn_overflow}
 use Rattle.anyon_app.specs.Report.{report_of}
 use Rattle.anyon_app.specs.Work.{Work, Says, read_work, judged}
-
--- the category of a text, or the reply at its first fault
-abbrev pub named_or : Result NamedSymbols Fault → Result NamedSymbols Reply
-named_or (Ok named) = Ok named
-named_or (Err fault) = Err (category_line fault.line fault.cause)
-
-abbrev pub named_of : List ℕ → Result NamedSymbols Reply
-named_of text = named_or (category_of text)
+use Rattle.anyon_app.specs.Categories.{named_of}
 
 -- an H-symbol or an S-symbol that can't be derived
 abbrev pub derive_line : List (List ℕ) → DeriveFault → Option Reply

@@ -5,5 +5,7 @@ pub mod Stages
 pub mod Causes
 pub mod Refusals
 pub mod Report
+pub mod Categories
 pub mod Comb
+pub mod Format
 pub mod Headline

@@ -10,16 +10,16 @@ ghost use Rattle.anyon_app.specs.Work.{read_work};
 ghost use Rattle.anyon_app.specs.Stages.{Gives, Passes, Worked};
 ghost use Rattle.anyon_app.specs.Refusals.{too_long};
 ghost use Rattle.category_text.specs.Named.{seen};
-ghost use Rattle.anyon_app.specs.Comb.{comb_work, named_of, plan_of, rows_of, rules_verdict, symbols_verdict, unless};
+ghost use Rattle.anyon_app.specs.Comb.{comb_work, plan_of, rows_of, rules_verdict, symbols_verdict, unless};
 
+use crate::categories::load_category;
 use crate::refusals::{
-    category_line, category_not_built, h_overflow, program_not_built, rules_line, s_overflow,
-    turn_overflow,
+    category_not_built, h_overflow, program_not_built, rules_line, s_overflow, turn_overflow,
 };
 use crate::report::report;
 use crate::stop::Stop;
 use crate::texts::{Kind, text};
-use category_text::{CategoryFault, Named, read_category};
+use category_text::Named;
 use comb_laws::{RunFault, comb_draft};
 use cyclo_core::Cyclo;
 use derive_symbols::{DeriveFault, derive_draft};
@@ -45,15 +45,6 @@ pub fn comb<S: Shelf>(
     rows(alloc, &named, &derived, &plan)
 }
 
-// The category of a text.
-fn load_category<S: Shelf>(alloc: Global, shelf: &mut S, name: &str) -> Result<Named, Stop>
-    ensures passes { Passes S.files S.faults shelf.old shelf.new seen (read_work (too_long Kind.Category) named_of name.now) result }
-    ensures counts { IfOk result (λ named. length named.names ≡ named.draft.rules.count) }
-{
-    let text = text(alloc, shelf, Kind::Category, name)?;
-    category(alloc, &text)
-}
-
 // The program of a text.
 fn load_program<S: Shelf>(
     alloc: Global,
@@ -67,19 +58,6 @@ fn load_program<S: Shelf>(
 {
     let text = text(alloc, shelf, Kind::Program, name)?;
     program(alloc, named, &text)
-}
-
-// The category of these bytes.
-fn category(alloc: Global, text: &[u8]) -> Result<Named, Stop>
-    requires { length text.now < 2 ^ 32 - 1 }
-    ensures gives { Gives seen result (named_of text.now) }
-    ensures counts { IfOk result (λ named. length named.names ≡ named.draft.rules.count) }
-{
-    match read_category(alloc, text) {
-        Ok(named) => Ok(named),
-        Err(CategoryFault::At { line, cause }) => Err(category_line(alloc, line, cause)),
-        Err(CategoryFault::Memory) => Err(Stop::OutOfMemory),
-    }
 }
 
 // Judges the labels of a category.

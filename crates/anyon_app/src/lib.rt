@@ -10,8 +10,10 @@
 //!   (`specs/Headline.antt`, [`anyon`]).
 #![tactic(auto)]
 
+mod categories;
 mod causes;
 mod comb;
+mod format;
 mod laws;
 mod lines;
 mod refusals;

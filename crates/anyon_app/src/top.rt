@@ -7,15 +7,17 @@ ghost use Rattle.anyon_app.specs.Stages.{Worked};
 ghost use Rattle.anyon_app.specs.Headline.{command_in, command_work, work_of, IsAnswer, HasReply, IsGiven, IsBegun, HasFailed, NoFaults, IsPut};
 
 use crate::comb::comb;
+use crate::format::format;
 use crate::{Status, Stop};
 use io_ports::{Shelf, Sink, put_all};
 use std::alloc::Global;
 
 /// Does what the words of the command line say, the words after the program's name.
 ///
-/// `comb CAT PROG` reads the category text and the program text of these names, each of at most
-/// 4,194,304 bytes, and writes the total and the rows of the program on left-combed paths. All other
-/// words are `Usage`. Whatever is written is built whole before its first byte is written.
+/// `format CAT` reads the category text of this name and writes its canonical text. `comb CAT PROG`
+/// reads a category text and a program text, and writes the total and the rows of the program on
+/// left-combed paths. Each text may have 4,194,304 bytes. All other words are `Usage`. Whatever is
+/// written is built whole before its first byte is written.
 ///
 /// - `Done`, `Refused`, `Limit`: the whole reply was written.
 /// - `Usage`: exactly where the words have no listed form. Nothing is written.
@@ -71,6 +73,7 @@ pub fn anyon<S: Shelf, W: Sink>(
 // What the words ask for.
 #[derive(Clone, Copy)]
 enum Command<'a> {
+    Format(&'a str),
     Comb(&'a str, &'a str),
 }
 
@@ -80,6 +83,9 @@ fn command_of(words: &[String]) -> Option<Command<'_>>
         (λ command. command_in (map string_bytes words.now) ≡ Some (command_work command)) }
 {
     match words {
+        [command, category] if command.as_str() == "format" => {
+            Some(Command::Format(category.as_str()))
+        }
         [command, category, program] if command.as_str() == "comb" => {
             Some(Command::Comb(category.as_str(), program.as_str()))
         }
@@ -92,6 +98,7 @@ fn work<S: Shelf>(alloc: Global, command: Command<'_>, shelf: &mut S) -> Result<
     ensures { Worked S.files S.faults shelf.old shelf.new (command_work command.entry) result }
 {
     match command {
+        Command::Format(category) => format(alloc, shelf, category),
         Command::Comb(category, program) => comb(alloc, shelf, category, program),
     }
 }

@@ -1,6 +1,5 @@
-use Rattle.std.proofs.Common.{◌≡◌, Some, None, sym, ◌∙◌}
+use Rattle.std.proofs.Common.{◌≡◌, None, sym, ◌∙◌}
 use Rattle.anyon_app.proofs.JudgeLemmas.{two_labels}
-use Rattle.anyon_app.proofs.StageLemmas.{gives_up}
 use Rattle.anyon_app.proofs.comb.judge.Goals as goal
 
 pub returns-in-Ok : goal.returns-in-Ok

@@ -1,8 +1,8 @@
 use Rattle.std.proofs.lemmas.Result.{err_from_is_err_and}
-use Rattle.anyon_app.specs.declared.texts.Kind.TheVariants.{Category, Program}
+use Rattle.anyon_app.specs.declared.texts.Kind.TheVariants.{Program}
 use Rattle.anyon_app.specs.Refusals.{too_long}
 use Rattle.category_text.specs.Named.{seen}
-use Rattle.anyon_app.specs.Comb.{named_of, plan_of}
+use Rattle.anyon_app.specs.Comb.{plan_of}
 use Rattle.anyon_app.proofs.StageLemmas.{read_passes}
 use Rattle.anyon_app.proofs.comb.load_program.Goals as goal
 

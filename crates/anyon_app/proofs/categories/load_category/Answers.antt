@@ -1,9 +1,9 @@
 use Rattle.std.proofs.lemmas.Result.{err_from_is_err_and}
-use Rattle.anyon_app.specs.declared.texts.Kind.TheVariants.{Category, Program}
+use Rattle.anyon_app.specs.declared.texts.Kind.TheVariants.{Category}
 use Rattle.anyon_app.specs.Refusals.{too_long}
-use Rattle.anyon_app.specs.Comb.{named_of, plan_of}
+use Rattle.anyon_app.specs.Categories.{named_of}
 use Rattle.anyon_app.proofs.StageLemmas.{read_passes}
-use Rattle.anyon_app.proofs.comb.load_category.Goals as goal
+use Rattle.anyon_app.proofs.categories.load_category.Goals as goal
 
 pub returns-in_err-text-clause-passes : goal.returns-in_err-text-clause-passes
 returns-in_err-text-clause-passes g c =
