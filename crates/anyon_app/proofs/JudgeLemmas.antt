@@ -1,19 +1,17 @@
 -- What decides about a category.
-use Rattle.std.proofs.Common.{◌≡◌, ℕ, List, Option, ap, ◌∙◌}
-use Rattle.std.specs.Prelude.{option_and_then, option_map}
+use Rattle.std.proofs.Common.{◌≡◌, ℕ, List, Option, Some, None, Ok, Err, refl, sym, ap, ◌∙◌}
+use Rattle.std.specs.Prelude.{option_map}
 use Rattle.std.specs.Option.{option_or}
 use Rattle.fusion_rules.specs.declared.rules.RulesFault.{RulesFault}
-use Rattle.derive_symbols.specs.declared.DeriveFault.{DeriveFault}
-use Rattle.anyon_app.specs.Refusals.{rules_line}
-use Rattle.anyon_app.specs.Comb.{count_line, derive_line, unless}
+use Rattle.symbol_table.specs.declared.law.Event.{Event}
+use Rattle.category_gate.specs.declared.GateFault.{GateFault}
+use Rattle.category_gate.specs.declared.GateFault.TheVariants.{Rules, Law, Memory}
+use Rattle.anyon_app.specs.Replies.{Reply}
+use Rattle.anyon_app.specs.Refusals.{rules_line, event_line}
+use Rattle.anyon_app.specs.Verdicts.{unless}
 
--- with two labels the rules decide
-pub two_labels : (names : List (List ℕ)) (count : ℕ) (rules : Option RulesFault) (found : Option RulesFault) → count ≡ 2 → rules ≡ found
-    → unless (option_or (count_line count) (option_map (rules_line names) rules)) ≡ unless (option_map (rules_line names) found)
-two_labels names count rules found two is =
-    ap (λ n. unless (option_or (count_line n) (option_map (rules_line names) rules))) two ∙ ap (λ o. unless (option_map (rules_line names) o)) is
-
--- a derived symbol decides
-pub by_symbol : (names : List (List ℕ)) (derives found : Option DeriveFault) → derives ≡ found
-    → unless (option_and_then (derive_line names) derives) ≡ unless (option_and_then (derive_line names) found)
-by_symbol names derives found is = ap (λ o. unless (option_and_then (derive_line names) o)) is
+-- the reply of a fault, where it has one
+abbrev pub gate_line : List (List ℕ) → GateFault → Option Reply
+gate_line names (Rules fault) = Some (rules_line names fault)
+gate_line names (Law event) = Some (event_line names event)
+gate_line names Memory = None

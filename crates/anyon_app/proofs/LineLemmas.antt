@@ -32,4 +32,16 @@ pub row_is : (out : List ℕ) (labels : List (List ℕ)) (number : List ℕ)
     → ((((out ++ codes "outcome") ++ spaced_on labels) ++ codes " weight ") ++ number) ++ 10 ∷ [] ≡ out ++ line_of (codes "outcome" ∷ labels ++ (codes "weight" ∷ number ∷ []))
 row_is out labels number = numbered_line out (codes "outcome") labels (codes "weight") number
 
+-- words, another word, labels and an end are a line
+pub begun_line : (begun word : List ℕ) (labels : List (List ℕ)) → (((begun ++ 32 ∷ []) ++ word) ++ spaced_on labels) ++ 10 ∷ [] ≡ line_of (begun ∷ word ∷ labels)
+begun_line begun word labels =
+    let parts : (((begun ++ 32 ∷ []) ++ word) ++ spaced_on labels) ++ 10 ∷ [] ≡ (begun ++ (32 ∷ (word ++ spaced_on labels))) ++ 10 ∷ [] = simp (append_assoc, append-nil) in
+    parts ∙ line_is begun (word ∷ labels)
+
+-- two words that are written as one piece
+pub limit_line : (others : List (List ℕ)) → line_of (codes "limit overflow" ∷ others) ≡ line_of (codes "limit" ∷ codes "overflow" ∷ others)
+limit_line others =
+    ap (λ l. l ++ 10 ∷ []) (spaced-cons (codes "limit overflow") others)
+    ∙ ap (λ l. (codes "limit" ++ 32 ∷ l) ++ 10 ∷ []) (sym (spaced-cons (codes "overflow") others))
+
 pub ruleset report_rules = (spelled-line, append_assoc)

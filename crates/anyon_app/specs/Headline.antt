@@ -8,20 +8,23 @@ use Rattle.io_ports.specs.Ports.{Files, Rose, WhereTold}
 use Rattle.anyon_app.specs.declared.status.Status.{Status}
 use Rattle.anyon_app.specs.declared.status.Status.TheVariants.{Done, Refused, Usage, WriteFault, Limit}
 use Rattle.anyon_app.specs.declared.top.Command.{Command}
-use Rattle.anyon_app.specs.declared.top.Command.TheVariants.{Comb, Format}
+use Rattle.anyon_app.specs.declared.top.Command.TheVariants.{Check, Comb, Format}
 use Rattle.anyon_app.specs.Replies.{Reply}
 use Rattle.anyon_app.specs.Work.{Work, Says, reply_of, Reaches, Names}
+use Rattle.anyon_app.specs.Check.{check_work}
 use Rattle.anyon_app.specs.Comb.{comb_work}
 use Rattle.anyon_app.specs.Format.{format_work}
 
--- what words of a listed form ask for: `format CAT` or `comb CAT PROG`
+-- what words of a listed form ask for: `check CAT`, `format CAT` or `comb CAT PROG`
 unfoldable pub command_in : List (List ℕ) → Option Work
-command_in (command ∷ first ∷ []) = if bytes_eq command (codes "format") then Some (format_work first) else None
+command_in (command ∷ first ∷ []) =
+    if bytes_eq command (codes "check") then Some (check_work first) else (if bytes_eq command (codes "format") then Some (format_work first) else None)
 command_in (command ∷ first ∷ second ∷ []) = if bytes_eq command (codes "comb") then Some (comb_work first second) else None
 command_in words = None
 
 -- what a command asks for
 unfoldable pub command_work : Command → Work
+command_work (Check category) = check_work category.now
 command_work (Format category) = format_work category.now
 command_work (Comb category program) = comb_work category.now program.now
 

@@ -3,9 +3,12 @@ pub mod Lines
 pub mod Work
 pub mod Stages
 pub mod Causes
+pub mod LawNames
 pub mod Refusals
 pub mod Report
 pub mod Categories
+pub mod Verdicts
 pub mod Comb
+pub mod Check
 pub mod Format
 pub mod Headline

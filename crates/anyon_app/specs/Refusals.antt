@@ -2,10 +2,12 @@
 use Rattle.std.specs.Prelude.{ℕ, List, [], ◌∷◌, map, codes, decimal, slice_index_or}
 use Rattle.fusion_rules.specs.declared.rules.RulesFault.{RulesFault}
 use Rattle.fusion_rules.specs.declared.rules.RulesFault.TheVariants.{NotCommutative, NotAssociative, NoSingleDual}
-use Rattle.symbol_table.specs.declared.index.FIndex.{FIndex}
-use Rattle.symbol_table.specs.declared.index.VIndex.{VIndex}
-use Rattle.anyon_app.specs.declared.texts.Kind.{Kind}
+use Rattle.symbol_table.specs.declared.law.Kind.{Kind}
+use Rattle.symbol_table.specs.declared.law.Kind.TheVariants.{Fails, Overflow}
+use Rattle.symbol_table.specs.declared.law.Event.{Event}
+use Rattle.anyon_app.specs.declared.texts.Kind as text
 use Rattle.anyon_app.specs.declared.texts.Kind.TheVariants.{Category, Program}
+use Rattle.anyon_app.specs.LawNames.{law_name}
 use Rattle.category_text.specs.declared.fault.CategoryCause.{CategoryCause}
 use Rattle.anyon_app.specs.Replies.{Reply}
 use Rattle.anyon_app.specs.Lines.{refusal_of, limit_of}
@@ -32,20 +34,24 @@ rules_line names (NotCommutative a b c) = refusal_of (codes "commutative" ∷ la
 rules_line names (NotAssociative a b c d) = refusal_of (codes "associative" ∷ label_names names (a ∷ b ∷ c ∷ d ∷ []))
 rules_line names (NoSingleDual a) = refusal_of (codes "dual" ∷ label_names names (a ∷ []))
 
--- an item of H(a,b,c,d;f,e) that doesn't fit
-abbrev pub h_overflow : List (List ℕ) → FIndex → Reply
-h_overflow names at = limit_of (codes "overflow" ∷ codes "derive-h" ∷ label_names names (at.a ∷ at.b ∷ at.c ∷ at.d ∷ at.f ∷ at.e ∷ []))
+-- an event of a law: its name, and its index
+abbrev pub event_words : List (List ℕ) → Event → List (List ℕ)
+event_words names event = law_name event.law ∷ label_names names event.index
 
--- an item of S(a,b,c) that doesn't fit
-abbrev pub s_overflow : List (List ℕ) → VIndex → Reply
-s_overflow names at = limit_of (codes "overflow" ∷ codes "derive-s" ∷ label_names names (at.a ∷ at.b ∷ at.c ∷ []))
+abbrev pub event_reply : Kind → List (List ℕ) → Reply
+event_reply Fails words = refusal_of words
+event_reply Overflow words = limit_of (codes "overflow" ∷ words)
+
+-- a law that isn't met, or an item of one that doesn't fit
+abbrev pub event_line : List (List ℕ) → Event → Reply
+event_line names event = event_reply event.kind (event_words names event)
 
 -- a program that isn't treated
 abbrev pub program_not_built : Reply
 program_not_built = refusal_of (codes "not built" ∷ codes "program" ∷ [])
 
 -- a text with more bytes than the limit; such a program isn't treated
-abbrev pub too_long : Kind → Reply
+abbrev pub too_long : text.Kind → Reply
 too_long Category = refusal_of (codes "category" ∷ codes "too long" ∷ [])
 too_long Program = program_not_built
 

@@ -12,8 +12,10 @@
 
 mod categories;
 mod causes;
+mod check;
 mod comb;
 mod format;
+mod judge;
 mod laws;
 mod lines;
 mod refusals;

@@ -1,16 +1,18 @@
 // The lines of refusals and limits.
-ghost use Rattle.std.specs.Prelude.{◌≡◌};
+ghost use Rattle.std.specs.Prelude.{◌≡◌, ◌∷◌, IfOk};
 ghost use Rattle.anyon_app.specs.Stages.{StopsWith};
-ghost use Rattle.anyon_app.specs.Refusals.{category_line, category_not_built, h_overflow, label_name, program_not_built, rules_line, s_overflow, too_long, turn_overflow};
+ghost use Rattle.anyon_app.specs.Refusals.{category_line, category_not_built, event_line, event_words, label_name, program_not_built, rules_line, too_long, turn_overflow};
+ghost use Rattle.anyon_app.specs.Lines.{line_of};
 
-use crate::causes::category_words;
+use crate::causes::{category_words, law_name};
+use crate::report::write_labels;
 use crate::stop::{Stop, limit, refusal};
 use crate::texts::Kind;
 use category_text::CategoryCause;
 use fusion_rules::{Names, RulesFault};
 use itoa::Buffer;
-use std::alloc::Global;
-use symbol_table::{FIndex, VIndex};
+use std::alloc::{AllocError, Global};
+use symbol_table::{Event, Kind as EventKind};
 
 /// The stop at a text that has too many bytes.
 pub fn too_long(alloc: Global, kind: Kind) -> Stop
@@ -54,35 +56,39 @@ pub fn rules_line(alloc: Global, names: &Names, fault: RulesFault) -> Stop
     }
 }
 
-/// The stop at an H-symbol an item of which doesn't fit.
-pub fn h_overflow(alloc: Global, names: &Names, at: &FIndex) -> Stop
-    ensures { StopsWith (h_overflow names.now at.now) result }
+/// The stop at a law that isn't met, or an item of which doesn't fit.
+#[tactic(auto, using(crate::proofs::LineLemmas::limit_line))]
+pub fn event_line(alloc: Global, names: &Names, event: &Event) -> Stop
+    ensures { StopsWith (event_line names.now event.now) result }
 {
-    let name = |label: u8| label_name(names, label);
-    limit(
-        alloc,
-        &[
-            "overflow",
-            "derive-h",
-            name(at.a),
-            name(at.b),
-            name(at.c),
-            name(at.d),
-            name(at.f),
-            name(at.e),
-        ],
-    )
+    match event.kind {
+        EventKind::Fails => match event_text(alloc, b"refused", names, event) {
+            Ok(line) => Stop::RefusalLine(line),
+            Err(_) => Stop::OutOfMemory,
+        },
+        EventKind::Overflow => match event_text(alloc, b"limit overflow", names, event) {
+            Ok(line) => Stop::LimitLine(line),
+            Err(_) => Stop::OutOfMemory,
+        },
+    }
 }
 
-/// The stop at an S-symbol an item of which doesn't fit.
-pub fn s_overflow(alloc: Global, names: &Names, at: &VIndex) -> Stop
-    ensures { StopsWith (s_overflow names.now at.now) result }
+// The line of an event: words before it, the name of its law, and its index.
+#[tactic(auto, using(crate::proofs::LineLemmas::begun_line))]
+fn event_text(
+    alloc: Global,
+    begun: &[u8],
+    names: &Names,
+    event: &Event,
+) -> Result<Vec<u8>, AllocError>
+    ensures { IfOk result (λ line. line.items ≡ line_of (begun.now ∷ event_words names.now event.now)) }
 {
-    let name = |label: u8| label_name(names, label);
-    limit(
-        alloc,
-        &["overflow", "derive-s", name(at.a), name(at.b), name(at.c)],
-    )
+    let mut line = Vec::from_slice(alloc, begun)?;
+    line.push(b' ')?;
+    line.extend_from_slice(law_name(event.law).as_bytes())?;
+    write_labels(names, event.index.as_slice(), &mut line)?;
+    line.push(b'\n')?;
+    Ok(line)
 }
 
 /// The stop at a program that isn't treated.

@@ -44,8 +44,8 @@ fn write_row(
     Ok(())
 }
 
-// Appends the names of labels, with a space before each.
-fn write_labels(names: &Names, labels: &[u8], out: &mut Vec<u8>) -> Result<(), AllocError>
+/// Appends the names of labels, with a space before each.
+pub fn write_labels(names: &Names, labels: &[u8], out: &mut Vec<u8>) -> Result<(), AllocError>
     ensures { OnOk result (out.new.items ≡ out.old.items ++ spaced_on (label_names names.now labels.now)) }
 {
     for label in labels {

@@ -6,6 +6,7 @@ ghost use Rattle.anyon_app.specs.Work.{reply_of, Decides};
 ghost use Rattle.anyon_app.specs.Stages.{Worked};
 ghost use Rattle.anyon_app.specs.Headline.{command_in, command_work, work_of, IsAnswer, HasReply, IsGiven, IsBegun, HasFailed, NoFaults, IsPut};
 
+use crate::check::check;
 use crate::comb::comb;
 use crate::format::format;
 use crate::{Status, Stop};
@@ -73,6 +74,7 @@ pub fn anyon<S: Shelf, W: Sink>(
 // What the words ask for.
 #[derive(Clone, Copy)]
 enum Command<'a> {
+    Check(&'a str),
     Format(&'a str),
     Comb(&'a str, &'a str),
 }
@@ -83,6 +85,9 @@ fn command_of(words: &[String]) -> Option<Command<'_>>
         (λ command. command_in (map string_bytes words.now) ≡ Some (command_work command)) }
 {
     match words {
+        [command, category] if command.as_str() == "check" => {
+            Some(Command::Check(category.as_str()))
+        }
         [command, category] if command.as_str() == "format" => {
             Some(Command::Format(category.as_str()))
         }
@@ -98,6 +103,7 @@ fn work<S: Shelf>(alloc: Global, command: Command<'_>, shelf: &mut S) -> Result<
     ensures { Worked S.files S.faults shelf.old shelf.new (command_work command.entry) result }
 {
     match command {
+        Command::Check(category) => check(alloc, shelf, category),
         Command::Format(category) => format(alloc, shelf, category),
         Command::Comb(category, program) => comb(alloc, shelf, category, program),
     }
