@@ -10,10 +10,13 @@
 //! Source: Kitaev 2006, Appendix E.1; Wang, CBMS 112, section 4.1.
 #![tactic(auto)]
 
+ghost use Rattle.std.specs.Prelude.{IsOk, OnOk};
 ghost use Rattle.fusion_rules.specs.First.{Answers};
 ghost use Rattle.symbol_table.specs.Category.{draft_symbols};
+ghost use Rattle.symbol_table.specs.Laws.{LawHolds};
 ghost use Rattle.symbol_table.specs.declared.law.Law.TheVariants.{Pentagon as PentagonLaw};
 ghost use Rattle.law_events.specs.Sides.{first_of};
+ghost use Rattle.law_events.specs.Verdicts.{Fits};
 
 mod sides;
 
@@ -58,6 +61,9 @@ impl<'a, R: StarRing> Judge for Pentagon<'a, R> {
 pub fn check<R: StarRing>(draft: &Draft<R>) -> Result<(), Event>
     ensures event { Answers result
         (first_of (draft_symbols (R.ring draft.now.ring) R.held draft.now) PentagonLaw) }
+    ensures lawful { OnOk result (LawHolds (draft_symbols (R.ring draft.now.ring) R.held draft.now) PentagonLaw) }
+    ensures complete { LawHolds (draft_symbols (R.ring draft.now.ring) R.held draft.now) PentagonLaw
+        → Fits (draft_symbols (R.ring draft.now.ring) R.held draft.now) PentagonLaw → IsOk result }
 {
     match first(&Pentagon { draft }) {
         None => Ok(()),
