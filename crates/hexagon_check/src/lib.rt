@@ -12,31 +12,26 @@
 //! Source: Kitaev 2006, Appendix E.3; Wang, CBMS 112, section 4.1.
 #![tactic(auto)]
 
+ghost use Rattle.std.specs.Prelude.{IsOk, OnOk};
 ghost use Rattle.fusion_rules.specs.First.{Answers};
 ghost use Rattle.symbol_table.specs.Draft.{given};
 ghost use Rattle.symbol_table.specs.Derived.{HoldsSymbols};
+ghost use Rattle.symbol_table.specs.Laws.{LawHolds};
 ghost use Rattle.symbol_table.specs.Category.{draft_symbols};
+ghost use Rattle.symbol_table.specs.declared.law.Law.TheVariants.{HexagonOne, HexagonTwo};
 ghost use Rattle.law_events.specs.Sides.{first_in, first_of, hexagon_laws};
+ghost use Rattle.law_events.specs.Verdicts.{Fits};
 ghost use Rattle.hexagon_check.specs.Exchange.{law_of};
 
 mod exchange;
 mod sides;
 
 use crate::exchange::Exchange;
-use crate::sides::verdict;
+use crate::sides::Hexagon;
 use fusion_rules::Rules;
 use law_events::{Judge, first};
 use ring_laws::StarRing;
 use symbol_table::{Derived, Draft, Event, Kind, Law};
-
-/// The hexagon of one exchange, of a draft whose derived values are given.
-#[derive(Drop)]
-struct Hexagon<'a, R: StarRing> {
-    draft: &'a Draft<R>,
-    derived: &'a Derived<R>,
-    exchange: Exchange,
-    ghost holds: { HoldsSymbols (R.ring draft.now.ring) (given draft.now) derived.now },
-}
 
 impl<'a, R: StarRing> Judge for Hexagon<'a, R> {
     ghost use Rattle.symbol_table.specs.Category.{draft_symbols};
@@ -58,7 +53,7 @@ impl<'a, R: StarRing> Judge for Hexagon<'a, R> {
     }
 
     fn judge(&self, index: &[u8]) -> Option<Kind> {
-        verdict(self.draft, self.derived, self.exchange, index)
+        self.verdict(index)
     }
 }
 
@@ -69,8 +64,10 @@ fn check_one<R: StarRing>(
     exchange: Exchange,
 ) -> Result<(), Event>
     requires holds { HoldsSymbols (R.ring draft.now.ring) (given draft.now) derived.now }
-    ensures { Answers result
-        (first_of (draft_symbols (R.ring draft.now.ring) R.held draft.now) (law_of exchange)) }
+    ensures event { Answers result (first_of (draft_symbols (R.ring draft.now.ring) R.held draft.now) (law_of exchange)) }
+    ensures lawful { OnOk result (LawHolds (draft_symbols (R.ring draft.now.ring) R.held draft.now) (law_of exchange)) }
+    ensures complete { LawHolds (draft_symbols (R.ring draft.now.ring) R.held draft.now) (law_of exchange)
+        → Fits (draft_symbols (R.ring draft.now.ring) R.held draft.now) (law_of exchange) → IsOk result }
 {
     match first(&Hexagon {
         draft,
@@ -87,8 +84,11 @@ fn check_one<R: StarRing>(
 /// not pass. Takes no memory.
 pub fn check<R: StarRing>(draft: &Draft<R>, derived: &Derived<R>) -> Result<(), Event>
     requires holds { HoldsSymbols (R.ring draft.now.ring) (given draft.now) derived.now }
-    ensures event { Answers result
-        (first_in (draft_symbols (R.ring draft.now.ring) R.held draft.now) hexagon_laws) }
+    ensures event { Answers result (first_in (draft_symbols (R.ring draft.now.ring) R.held draft.now) hexagon_laws) }
+    ensures lawful_one { OnOk result (LawHolds (draft_symbols (R.ring draft.now.ring) R.held draft.now) HexagonOne) }
+    ensures lawful_two { OnOk result (LawHolds (draft_symbols (R.ring draft.now.ring) R.held draft.now) HexagonTwo) }
+    ensures complete { LawHolds (draft_symbols (R.ring draft.now.ring) R.held draft.now) HexagonOne × LawHolds (draft_symbols (R.ring draft.now.ring) R.held draft.now) HexagonTwo
+        → Fits (draft_symbols (R.ring draft.now.ring) R.held draft.now) HexagonOne × Fits (draft_symbols (R.ring draft.now.ring) R.held draft.now) HexagonTwo → IsOk result }
 {
     check_one(draft, derived, Exchange::Positive)?;
     check_one(draft, derived, Exchange::Negative)
