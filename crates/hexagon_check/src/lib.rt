@@ -93,3 +93,6 @@ pub fn check<R: StarRing>(draft: &Draft<R>, derived: &Derived<R>) -> Result<(), 
     check_one(draft, derived, Exchange::Positive)?;
     check_one(draft, derived, Exchange::Negative)
 }
+
+#[cfg(test)]
+mod tests;

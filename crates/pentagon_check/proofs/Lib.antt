@@ -1,1 +1,2 @@
 pub mod PentagonLemmas
+pub mod Tried

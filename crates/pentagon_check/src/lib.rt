@@ -70,3 +70,6 @@ pub fn check<R: StarRing>(draft: &Draft<R>) -> Result<(), Event>
         Some(event) => Err(event),
     }
 }
+
+#[cfg(test)]
+mod tests;
