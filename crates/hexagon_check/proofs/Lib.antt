@@ -1,0 +1,2 @@
+pub mod HexagonLemmas
+pub mod Tried

@@ -1,0 +1,2 @@
+pub mod PentagonLemmas
+pub mod Tried
