@@ -1,5 +1,5 @@
 -- The stated evaluation of a hexagon gives its two sides over ring values.
-use Rattle.std.proofs.Common.{◌≡◌, ℕ, Bool, false, ◌&&◌}
+use Rattle.std.proofs.Common.{◌≡◌, ℕ, false, ◌&&◌}
 use Rattle.std.specs.Prelude.{IsTrue, None, Some}
 use Rattle.ring_laws.specs.Ring.{Ring, Held, RingLaws}
 use Rattle.ring_laws.specs.Sums.{total}

@@ -1,5 +1,5 @@
 -- The hexagons, tried on values that were worked out by hand.
-use Rattle.std.specs.Prelude.{◌≡◌, ℕ, ◌+◌, ◌*◌, ◌^◌, Bool, true, ◌&&◌, ◌==◌, [], ◌∷◌, ℤ, pos, neg_ℤ, Option, Some, None, if◌then◌else◌, refl}
+use Rattle.std.specs.Prelude.{◌≡◌, ◌+◌, ◌*◌, ◌^◌, true, ◌&&◌, ◌==◌, [], ◌∷◌, ℤ, pos, neg_ℤ, Some, None, if◌then◌else◌, refl}
 use Rattle.ring_laws.specs.Whole.{whole_ring, whole_held}
 use Rattle.fusion_rules.specs.Fusion.{Fusion, fuses, with_triple}
 use Rattle.fusion_rules.proofs.Worked.{two_labels, fib}

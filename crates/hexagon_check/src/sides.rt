@@ -38,8 +38,8 @@ impl<'a, R: StarRing> Hexagon<'a, R> {
     /// R(a,b,c) or S(a,b,c) at any three labels below the count: 0 where they aren't admissible.
     fn symbol(&self, a: u8, b: u8, c: u8) -> R::Elem
         requires labels { AreThreeLabels self.now.draft.now.rules.count a b c }
-        ensures value { result ≡ symbol_of (draft_symbols (R.ring self.now.draft.now.ring) R.held self.now.draft.now)
-            self.now.exchange a b c }
+        ensures value { result ≡ symbol_of
+            (draft_symbols (R.ring self.now.draft.now.ring) R.held self.now.draft.now) self.now.exchange a b c }
         ensures member { IsTrue ((R.ring self.now.draft.now.ring).member result) }
     {
         match self.exchange {

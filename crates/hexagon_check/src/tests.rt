@@ -38,7 +38,8 @@ fn hold(rt: HostRuntime) -> Result<(), Fail> {
     Ok(())
 }
 
-// At g g g g 1 1 the left side is the square of R(g,g,1) or of S(g,g,1) = R(g,g,1) w(g,g,1), the right one is 1.
+// At g g g g 1 1 the left side is the square of R(g,g,1) or of S(g,g,1) = R(g,g,1) w(g,g,1), the right
+// one is 1.
 #[test]
 fn first_event(rt: HostRuntime) -> Result<(), Fail> {
     for (r, w, kind, law) in [

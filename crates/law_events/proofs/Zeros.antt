@@ -1,6 +1,5 @@
 -- What is zero where labels don't fuse: F off its admissible indices, and a product with a factor zero.
 use Rattle.std.proofs.Common.{◌≡◌, ℕ, Bool, true, false, ◌&&◌, refl, ap, ◌∙◌}
-use Rattle.std.specs.Prelude.{if◌then◌else◌}
 use Rattle.ring_laws.specs.Ring.{Ring, Held, RingLaws}
 use Rattle.ring_laws.proofs.SumLemmas.{if_no, zero-product}
 use Rattle.symbol_table.specs.Symbols.{Given, f_admissible, f_of}

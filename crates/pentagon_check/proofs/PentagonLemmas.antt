@@ -8,7 +8,7 @@ use Rattle.symbol_table.specs.Symbols.{Symbols, Given, symbols_of}
 use Rattle.symbol_table.specs.declared.law.Law.TheVariants.{Pentagon}
 use Rattle.law_events.specs.Stated.{add_product3_at}
 use Rattle.law_events.specs.Sides.{pentagon_left, pentagon_right, pentagon_step}
-use Rattle.law_events.specs.Verdicts.{IsJudged, JudgesRight}
+use Rattle.law_events.specs.Verdicts.{JudgesRight}
 use Rattle.law_events.proofs.Values.{Evaluates, given_is, product_is, add_product3_is, same_where_none, never_fails, step_is, steps_are}
 use Rattle.law_events.proofs.Zeros.{one_of_three, f_zero_third, f_zero_fourth, left_gone, first_gone, second_gone}
 

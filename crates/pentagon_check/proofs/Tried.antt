@@ -1,9 +1,9 @@
 -- The pentagon, tried on values that were worked out by hand.
-use Rattle.std.specs.Prelude.{◌≡◌, ℕ, ◌+◌, ◌*◌, ◌^◌, Bool, true, ◌&&◌, ◌==◌, nat_lt, [], ◌∷◌, ℤ, pos, neg_ℤ, Option, Some, None, if◌then◌else◌, refl}
+use Rattle.std.specs.Prelude.{◌≡◌, ◌+◌, ◌*◌, ◌^◌, true, ◌&&◌, ◌==◌, [], ◌∷◌, ℤ, pos, neg_ℤ, Some, None, if◌then◌else◌, refl}
 use Rattle.ring_laws.specs.Whole.{whole_ring, whole_held}
 use Rattle.fusion_rules.specs.Fusion.{Fusion, fuses, with_triple}
 use Rattle.fusion_rules.proofs.Worked.{two_labels, fib}
-use Rattle.symbol_table.specs.Symbols.{Given, Symbols, symbols_of}
+use Rattle.symbol_table.specs.Symbols.{Symbols, symbols_of}
 use Rattle.symbol_table.specs.declared.law.Law.TheVariants.{Pentagon}
 use Rattle.symbol_table.specs.declared.law.Kind.TheVariants.{Fails, Overflow}
 use Rattle.law_events.specs.Sides.{first_of, pentagon_left, pentagon_right}

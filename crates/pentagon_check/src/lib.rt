@@ -1,11 +1,12 @@
 //! The pentagon of a draft, checked index by index.
 //!
 //! Glossary:
-//! - *pentagon*: F(x,m,r,z;y,f) F(p,l,f,z;x,q) is the sum over e of F(p,l,m,y;x,e) F(p,e,r,z;y,q) F(l,m,r,q;e,f)
-//!   (`symbol_table`, `specs/Laws.antt`).
+//! - *pentagon*: F(x,m,r,z;y,f) F(p,l,f,z;x,q) is the sum over e of
+//!   F(p,l,m,y;x,e) F(p,e,r,z;y,q) F(l,m,r,q;e,f) (`symbol_table`, `specs/Laws.antt`).
 //! - *index*: the labels p, l, m, r, x, y, z, f, q, at places 0 to 8.
 //! - *left side*, *term*, *right side*: how both sides are evaluated (`law_events`, `specs/Sides.antt`).
-//! - *event*: an index with a false equation, or with an item that doesn't fit (`law_events`, `specs/First.antt`).
+//! - *event*: an index with a false equation, or with an item that doesn't fit (`law_events`,
+//!   `specs/First.antt`).
 //!
 //! Source: Kitaev 2006, Appendix E.1; Wang, CBMS 112, section 4.1.
 #![tactic(auto)]
@@ -57,11 +58,15 @@ impl<'a, R: StarRing> Judge for Pentagon<'a, R> {
 }
 
 /// Whether the pentagon holds at every index of a draft: else the first event, in the order of the labels
-/// p, l, m, r, x, y, z, f, q. The rules need not pass. Takes no memory.
+/// p, l, m, r, x, y, z, f, q.
+///
+/// `Fails` comes where all items fit and the equation is false, `Overflow` where an item doesn't fit. The rules
+/// need not pass. Takes no memory.
 pub fn check<R: StarRing>(draft: &Draft<R>) -> Result<(), Event>
     ensures event { Answers result
         (first_of (draft_symbols (R.ring draft.now.ring) R.held draft.now) PentagonLaw) }
-    ensures lawful { OnOk result (LawHolds (draft_symbols (R.ring draft.now.ring) R.held draft.now) PentagonLaw) }
+    ensures lawful { OnOk result
+        (LawHolds (draft_symbols (R.ring draft.now.ring) R.held draft.now) PentagonLaw) }
     ensures complete { LawHolds (draft_symbols (R.ring draft.now.ring) R.held draft.now) PentagonLaw
         → Fits (draft_symbols (R.ring draft.now.ring) R.held draft.now) PentagonLaw → IsOk result }
 {
