@@ -8,7 +8,8 @@ use Rattle.comb_laws.specs.Plans.{rows_from, outcomes_of}
 use Rattle.comb_laws.specs.Evaluated.{evaluation_of}
 use Rattle.program_text.specs.declared.plan.Command.TheVariants.{Braid, Measure}
 use Rattle.program_text.specs.declared.plan.Sign.TheVariants.{Plus, Minus}
-use Rattle.comb_laws.proofs.Fib.{num, fib, lx, short, x, mixed, numbered, whole, ring5}
+use Rattle.symbol_table.proofs.Fib.{num, fib, numbered, whole, ring5}
+use Rattle.comb_laws.proofs.Fib.{lx, short, x, mixed}
 
 pub three_strands : paths fib (1 ∷ 1 ∷ 1 ∷ []) ≡ (0 ∷ 1 ∷ 0 ∷ 1 ∷ []) ∷ (0 ∷ 1 ∷ 1 ∷ 0 ∷ []) ∷ (0 ∷ 1 ∷ 1 ∷ 1 ∷ []) ∷ []
 three_strands = refl

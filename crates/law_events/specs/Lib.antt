@@ -1,3 +1,4 @@
 pub mod First
 pub mod Sides
 pub mod Stated
+pub mod Verdicts

@@ -34,7 +34,9 @@ pub trait Judge {
 fn is_within(triple: &Triple, places: usize) -> bool
     ensures { result ≡ within places triple.now }
 {
-    usize::from(triple.a) < places && usize::from(triple.b) < places && usize::from(triple.c) < places
+    usize::from(triple.a) < places
+        && usize::from(triple.b) < places
+        && usize::from(triple.c) < places
 }
 
 /// Whether the labels fuse at each triple that lies within them.

@@ -1,3 +1,6 @@
 pub mod MemberLemmas
 pub mod SameLemmas
+pub mod Fib
+pub mod Lawful
+pub mod Tested
 pub mod Worked

@@ -101,10 +101,10 @@ pub no_conjugate : s_at (record whole_ring { conjugate_fits = λ x. false }) num
 no_conjugate = refl
 
 -- the unit alone: H and S are 1, and a derived value that holds them
-abbrev unit_draft : DraftValue ℕ ℤ
+abbrev pub unit_draft : DraftValue ℕ ℤ
 unit_draft = record { ring = 0; rules = one_label; set_f = []; set_r = []; set_w = []; set_v = [] }
 
-abbrev unit_derived : DerivedValue ℤ
+abbrev pub unit_derived : DerivedValue ℤ
 unit_derived = record { put_h = (f_index 0 0 0 0 0 0, pos 1) ∷ []; put_s = (v_index 0 0 0, pos 1) ∷ [] }
 
 one_only : (a b c : ℕ) → fuses one_label a b c ≡ true → (a ≡ 0) × (b ≡ 0) × (c ≡ 0)

@@ -48,9 +48,7 @@ pub struct Triple {
 }
 
 /// a b c, with N(a,b,c).
-const VERTEX: [Triple; 1] = [
-    Triple { a: 0, b: 1, c: 2 },
-];
+const VERTEX: [Triple; 1] = [Triple { a: 0, b: 1, c: 2 }];
 
 /// a b c d e f, where F(a,b,c,d;e,f) is admissible.
 const UNIT_F: [Triple; 4] = [
@@ -110,12 +108,7 @@ impl Law {
     {
         match self {
             Law::Rigid => 1,
-            Law::UnitR
-            | Law::UnitW
-            | Law::RealW
-            | Law::InverseW
-            | Law::NormR
-            | Law::DeriveS => 3,
+            Law::UnitR | Law::UnitW | Law::RealW | Law::InverseW | Law::NormR | Law::DeriveS => 3,
             Law::UnitF
             | Law::DeriveH
             | Law::InverseF
@@ -132,12 +125,8 @@ impl Law {
     {
         match self {
             Law::Rigid => &[],
-            Law::UnitR
-            | Law::UnitW
-            | Law::RealW
-            | Law::InverseW
-            | Law::NormR
-            | Law::DeriveS => &VERTEX,
+            Law::UnitR | Law::UnitW | Law::RealW | Law::InverseW | Law::NormR | Law::DeriveS =>
+                &VERTEX,
             Law::UnitF => &UNIT_F,
             Law::DeriveH => &DERIVE_H,
             Law::InverseF => &INVERSE_F,

@@ -1,6 +1,6 @@
 ghost use Rattle.std.specs.Prelude.{◌≡◌, IfOk};
 
-use crate::{Derived, Draft, FIndex, SetFault, VIndex};
+use crate::{Derived, Draft, FIndex, Labels, Law, SetFault, Triple, VIndex};
 use fusion_rules::Rules;
 use ring_laws::{Int, Whole};
 use std::alloc::Global;
@@ -71,5 +71,15 @@ fn put_and_read(rt: HostRuntime) -> Result<(), Fail> {
     assert_eq!(rt; derived.s(&Whole, &VERTEX).get(), 9);
     derived.put_h(SIX, int(8)?)?;
     assert_eq!(rt; derived.h(&Whole, &SIX).get(), 8);
+    Ok(())
+}
+
+#[test]
+fn laws_as_data(rt: HostRuntime) -> Result<(), Fail> {
+    assert_eq!(rt; Law::Rigid.triples().len(), 0);
+    assert_eq!(rt; Law::Pentagon.places(), 9);
+    assert_eq!(rt; Law::Pentagon.triples()[3], Triple { a: 2, b: 3, c: 7 });
+    let labels = Labels::new().with(4).with(7);
+    assert_eq!(rt; labels.as_slice(), [4u8, 7].as_slice());
     Ok(())
 }
