@@ -2,4 +2,4 @@ pub mod DeriveLemmas
 pub mod FillLemmas
 pub mod ValueLemmas
 pub mod WalkLemmas
-pub mod Worked
+pub mod Tried

@@ -1,3 +1,3 @@
-pub mod Stop
+pub mod Told
 pub mod Walk
 pub mod Weighted

@@ -3,44 +3,39 @@
 //! Glossary:
 //! - *stated H and S*: their evaluation from the left, which stops where an item doesn't fit
 //!   (`symbol_table`, `specs/Evaluated.antt`).
-//! - *stop*: the first index at which H, or else S, doesn't fit (`specs/Stop.antt`).
+//! - *tells*: what a check of laws answers, H and S or the first event (`specs/Told.antt`).
 //! - *fills*: how a walk over the indices that go on from some labels changes derived values
 //!   (`specs/Walk.antt`).
 //!
 //! Source: Kitaev 2006, Appendix E.2.
 #![tactic(auto)]
 
-ghost use Rattle.std.specs.Prelude.{◌≡◌};
-ghost use Rattle.symbol_table.specs.Draft.{given};
-ghost use Rattle.derive_symbols.specs.Stop.{Derives};
+ghost use Rattle.std.specs.Prelude.{[], ◌∷◌};
+ghost use Rattle.derive_symbols.specs.Told.{Tells};
 
 mod evaluate;
-mod labels;
 mod walk;
 
-use crate::labels::Labels;
 use crate::walk::{Symbol, derive_more};
 use ring_laws::StarRing;
 use std::alloc::Global;
-use symbol_table::{Derived, Draft, FIndex, VIndex};
+use symbol_table::{Derived, Draft, Event, Labels, Law};
 
-/// Why the symbols of a draft aren't derived.
-#[derive(Clone, Copy, Debug, PartialEq, Eq)]
-pub enum DeriveFault {
-    /// An item of the evaluation of H(a,b,c,d;f,e) doesn't fit, at the index of F(a,b,c,d;e,f).
-    H(FIndex),
-    /// An item of the evaluation of S(a,b,c) doesn't fit.
-    S(VIndex),
+/// Why a check of laws that derives symbols doesn't answer them.
+#[derive(Debug, Drop)]
+pub enum WeightFault {
+    /// A law isn't met at an index.
+    Law(Event),
     /// There was no memory for one value more.
     Memory,
 }
 
 /// H and S of a draft at every admissible index.
 ///
-/// `H` or `S` comes exactly at the first index whose evaluation doesn't fit: first of H in the order of the
-/// labels a, b, c, d, f, e, then of S in the order of a, b, c. The rules need not commute.
-pub fn derive_draft<R: StarRing>(alloc: Global, draft: &Draft<R>) -> Result<Derived<R>, DeriveFault>
-    ensures { Derives (R.ring draft.now.ring) (given draft.now) result }
+/// `Law` comes exactly where an evaluation doesn't fit, with the first index: first of `DeriveH` in the order of
+/// the labels a, b, c, d, f, e, then of `DeriveS` in the order of a, b, c. The rules need not commute.
+pub fn derive_draft<R: StarRing>(alloc: Global, draft: &Draft<R>) -> Result<Derived<R>, WeightFault>
+    ensures told { Tells (R.ring draft.now.ring) R.held draft.now (Law.DeriveH ∷ Law.DeriveS ∷ []) result }
 {
     let mut derived = Derived::new(alloc);
     derive_more(draft, &mut derived, Symbol::H, 6, Labels::new())?;

@@ -1,11 +1,11 @@
 ghost use Rattle.std.specs.Prelude.{◌≡◌, IfOk};
 
-use crate::{DeriveFault, derive_draft};
+use crate::{WeightFault, derive_draft};
 use fusion_rules::{RuleRefused, Rules};
 use ring_laws::{Int, Whole};
 use std::alloc::Global;
 use std::test::Fail;
-use symbol_table::{Draft, FIndex, VIndex};
+use symbol_table::{Draft, FIndex, Kind, Law, VIndex};
 
 const AT: FIndex = FIndex {
     a: 1,
@@ -58,6 +58,10 @@ fn too_large(rt: HostRuntime) -> Result<(), Fail> {
     let mut draft = Draft::new(rt.alloc(), Whole, fibonacci()?);
     draft.set_f(AT, int(1 << 100)?)?;
     draft.set_w(VIndex { a: 1, b: 1, c: 1 }, int(1 << 40)?)?;
-    assert!(rt; matches!(derive_draft(rt.alloc(), &draft), Err(DeriveFault::H(AT))));
+    let Err(WeightFault::Law(event)) = derive_draft(rt.alloc(), &draft) else {
+        return Err(Fail::from("no event"));
+    };
+    assert_eq!(rt; (event.law, event.kind), (Law::DeriveH, Kind::Overflow));
+    assert_eq!(rt; event.index.as_slice(), [1, 1, 1, 1, 1, 0].as_slice());
     Ok(())
 }

@@ -4,12 +4,11 @@ ghost use Rattle.symbol_table.specs.Draft.{given};
 ghost use Rattle.fusion_rules.specs.Fusion.{fuses};
 ghost use Rattle.derive_symbols.specs.Walk.{Fills, goes_on, places};
 
-use crate::DeriveFault;
+use crate::WeightFault;
 use crate::evaluate::{evaluate_h, evaluate_s};
-use crate::labels::Labels;
 use fusion_rules::Rules;
 use ring_laws::StarRing;
-use symbol_table::{Derived, Draft, FIndex, VIndex};
+use symbol_table::{Derived, Draft, Event, FIndex, Kind, Labels, Law, VIndex};
 
 /// Which symbol is derived.
 #[derive(Clone, Copy, Debug, PartialEq, Eq)]
@@ -20,34 +19,46 @@ pub(crate) enum Symbol {
     S,
 }
 
+/// A value of an index that doesn't fit.
+fn too_large(law: Law, index: Labels) -> WeightFault
+    ensures { result ≡ WeightFault.Law (record { kind = Kind.Overflow; law = law; index = index }) }
+{
+    WeightFault::Law(Event {
+        kind: Kind::Overflow,
+        law,
+        index,
+    })
+}
+
 /// Puts H(a,b,c,d;f,e) where it is admissible.
 fn derive_h<R: StarRing>(
     draft: &Draft<R>,
     derived: &mut Derived<R>,
-    index: &[u8],
-) -> Result<(), DeriveFault>
-    requires long { length index.now ≡ 6 }
-    requires labels { All (λ t. t < draft.now.rules.count) index.now }
-    ensures { Fills (R.ring draft.now.ring) (given draft.now) result Symbol.H 0 index.now derived.old
+    index: Labels,
+) -> Result<(), WeightFault>
+    requires long { length index ≡ 6 }
+    requires labels { All (λ t. t < draft.now.rules.count) index }
+    ensures { Fills (R.ring draft.now.ring) R.held (given draft.now) result Symbol.H 0 index derived.old
         derived.new }
 {
+    let labels = index.as_slice();
     let at = FIndex {
-        a: index[0],
-        b: index[1],
-        c: index[2],
-        d: index[3],
-        f: index[4],
-        e: index[5],
+        a: labels[0],
+        b: labels[1],
+        c: labels[2],
+        d: labels[3],
+        f: labels[4],
+        e: labels[5],
     };
     if !at.is_admissible(draft.rules()) {
         return Ok(());
     }
     let Ok(value) = evaluate_h(draft, &at) else {
-        return Err(DeriveFault::H(at));
+        return Err(too_large(Law::DeriveH, index));
     };
     match derived.put_h(at, value) {
         Ok(()) => Ok(()),
-        Err(_) => Err(DeriveFault::Memory),
+        Err(_) => Err(WeightFault::Memory),
     }
 }
 
@@ -55,27 +66,28 @@ fn derive_h<R: StarRing>(
 fn derive_s<R: StarRing>(
     draft: &Draft<R>,
     derived: &mut Derived<R>,
-    index: &[u8],
-) -> Result<(), DeriveFault>
-    requires long { length index.now ≡ 3 }
-    requires labels { All (λ t. t < draft.now.rules.count) index.now }
-    ensures { Fills (R.ring draft.now.ring) (given draft.now) result Symbol.S 0 index.now derived.old
+    index: Labels,
+) -> Result<(), WeightFault>
+    requires long { length index ≡ 3 }
+    requires labels { All (λ t. t < draft.now.rules.count) index }
+    ensures { Fills (R.ring draft.now.ring) R.held (given draft.now) result Symbol.S 0 index derived.old
         derived.new }
 {
+    let labels = index.as_slice();
     let at = VIndex {
-        a: index[0],
-        b: index[1],
-        c: index[2],
+        a: labels[0],
+        b: labels[1],
+        c: labels[2],
     };
     if !draft.rules().allows(at.a, at.b, at.c) {
         return Ok(());
     }
     let Ok(value) = evaluate_s(draft, &at) else {
-        return Err(DeriveFault::S(at));
+        return Err(too_large(Law::DeriveS, index));
     };
     match derived.put_s(at, value) {
         Ok(()) => Ok(()),
-        Err(_) => Err(DeriveFault::Memory),
+        Err(_) => Err(WeightFault::Memory),
     }
 }
 
@@ -83,11 +95,11 @@ fn derive_at<R: StarRing>(
     draft: &Draft<R>,
     derived: &mut Derived<R>,
     symbol: Symbol,
-    index: &[u8],
-) -> Result<(), DeriveFault>
-    requires long { length index.now ≡ places symbol }
-    requires labels { All (λ t. t < draft.now.rules.count) index.now }
-    ensures { Fills (R.ring draft.now.ring) (given draft.now) result symbol 0 index.now derived.old
+    index: Labels,
+) -> Result<(), WeightFault>
+    requires long { length index ≡ places symbol }
+    requires labels { All (λ t. t < draft.now.rules.count) index }
+    ensures { Fills (R.ring draft.now.ring) R.held (given draft.now) result symbol 0 index derived.old
         derived.new }
 {
     match symbol {
@@ -114,17 +126,17 @@ pub(crate) fn derive_more<R: StarRing>(
     symbol: Symbol,
     more: u8,
     index: Labels,
-) -> Result<(), DeriveFault>
+) -> Result<(), WeightFault>
     requires long { length index + more ≡ places symbol }
     requires labels { All (λ t. t < draft.now.rules.count) index }
-    ensures { Fills (R.ring draft.now.ring) (given draft.now) result symbol more index derived.old
+    ensures { Fills (R.ring draft.now.ring) R.held (given draft.now) result symbol more index derived.old
         derived.new }
 {
     if !goes_on(draft.rules(), symbol, index.as_slice()) {
         return Ok(());
     }
     if more == 0 {
-        return derive_at(draft, derived, symbol, index.as_slice());
+        return derive_at(draft, derived, symbol, index);
     }
     for t in 0..draft.rules().count() {
         derive_more(draft, derived, symbol, more - 1, index.with(t))?;
