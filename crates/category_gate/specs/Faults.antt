@@ -1,0 +1,9 @@
+-- The faults of the weight laws as those of the gate.
+use Rattle.derive_symbols.specs.declared.WeightFault.{WeightFault}
+use Rattle.derive_symbols.specs.declared.WeightFault.TheVariants as weights
+use Rattle.category_gate.specs.declared.GateFault.{GateFault}
+use Rattle.category_gate.specs.declared.GateFault.TheVariants as fault
+
+abbrev pub of_weights : WeightFault → GateFault
+of_weights (weights.Law event) = fault.Law event
+of_weights weights.Memory = fault.Memory
