@@ -131,18 +131,37 @@ module _ {E : Type 0} (ring : Ring E) (held : Held E) (laws : RingLaws ring held
   -- the weight laws but the last are judged right
   pub judged_right : All (λ law. JudgesRight c law) before_rigid
   judged_right =
-      All-from_recursion (λ law. JudgesRight c law) before_rigid
-      (unit_f_judged,
-      (judged_by UnitR (λ i. unit_right c.r (slice_index i 0) (slice_index i 1) (slice_index i 2)),
-      (judged_by UnitW (λ i. unit_right c.w (slice_index i 0) (slice_index i 1) (slice_index i 2)),
-      (judged_by RealW (λ i. real_right (c.w (slice_index i 0) (slice_index i 1) (slice_index i 2))),
-      (judged_by InverseW (λ i. inverse_right (c.w (slice_index i 0) (slice_index i 1) (slice_index i 2)) (c.v (slice_index i 0) (slice_index i 1) (slice_index i 2))),
-      (judged_by NormR (λ i. norm_r_right (slice_index i 0) (slice_index i 1) (slice_index i 2)),
-      (judged_by DeriveH (λ i. free_right ring held laws (h_stated c (slice_index i 0) (slice_index i 1) (slice_index i 2) (slice_index i 3) (slice_index i 4) (slice_index i 5))),
-      (judged_by DeriveS (λ i. free_right ring held laws (s_stated c (slice_index i 0) (slice_index i 1) (slice_index i 2))),
-      (judged_by InverseF (λ i. inverse_f_right (slice_index i 0) (slice_index i 1) (slice_index i 2) (slice_index i 3) (slice_index i 4) (slice_index i 5)),
-      (judged_by InverseH (λ i. inverse_h_right (slice_index i 0) (slice_index i 1) (slice_index i 2) (slice_index i 3) (slice_index i 4) (slice_index i 5)),
-      tt))))))))))
+      All-from_recursion (λ law. JudgesRight c law) before_rigid (
+        unit_f_judged,
+        (
+          judged_by UnitR (λ i. unit_right c.r (slice_index i 0) (slice_index i 1) (slice_index i 2)),
+          (
+            judged_by UnitW (λ i. unit_right c.w (slice_index i 0) (slice_index i 1) (slice_index i 2)),
+            (
+              judged_by RealW (λ i. real_right (c.w (slice_index i 0) (slice_index i 1) (slice_index i 2))),
+              (
+                judged_by InverseW (λ i. inverse_right (c.w (slice_index i 0) (slice_index i 1) (slice_index i 2)) (c.v (slice_index i 0) (slice_index i 1) (slice_index i 2))),
+                (
+                  judged_by NormR (λ i. norm_r_right (slice_index i 0) (slice_index i 1) (slice_index i 2)),
+                  (
+                    judged_by DeriveH (λ i. free_right ring held laws (h_stated c (slice_index i 0) (slice_index i 1) (slice_index i 2) (slice_index i 3) (slice_index i 4) (slice_index i 5))),
+                    (
+                      judged_by DeriveS (λ i. free_right ring held laws (s_stated c (slice_index i 0) (slice_index i 1) (slice_index i 2))),
+                      (
+                        judged_by InverseF (λ i. inverse_f_right (slice_index i 0) (slice_index i 1) (slice_index i 2) (slice_index i 3) (slice_index i 4) (slice_index i 5)),
+                        (
+                          judged_by InverseH (λ i. inverse_h_right (slice_index i 0) (slice_index i 1) (slice_index i 2) (slice_index i 3) (slice_index i 4) (slice_index i 5)),
+                          tt,
+                        ),
+                      ),
+                    ),
+                  ),
+                ),
+              ),
+            ),
+          ),
+        ),
+      )
 
   -- a value that isn't said to be 0 isn't 0
   not_zero : (x : E) → (if held.is_zero x then Some Fails else None) ≡ None → x ≢ ring.zero

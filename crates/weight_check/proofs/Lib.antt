@@ -1,3 +1,4 @@
 pub mod AnswerLemmas
 pub mod JudgedLemmas
 pub mod PartLemmas
+pub mod Tried

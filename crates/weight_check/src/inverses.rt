@@ -181,7 +181,11 @@ pub(crate) fn check_inverses<R: StarRing>(
     ensures { Passes result (first_in (draft_symbols (R.ring draft.now.ring) R.held draft.now) (map inverse_law laws.now)) }
 {
     for law in laws {
-        pass(&OfDerived { draft, derived, law: *law })?;
+        pass(&OfDerived {
+            draft,
+            derived,
+            law: *law,
+        })?;
     }
     Ok(())
 }

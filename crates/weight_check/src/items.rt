@@ -70,12 +70,7 @@ pub(crate) fn takes_weight<R: StarRing>(
 }
 
 /// Whether a member of a ring is the entry of an identity matrix: 1 where row and column are the same, else 0.
-pub(crate) fn is_identity<R: StarRing>(
-    ring: &R,
-    x: &R::Elem,
-    row: u8,
-    column: u8,
-) -> Option<Kind>
+pub(crate) fn is_identity<R: StarRing>(ring: &R, x: &R::Elem, row: u8, column: u8) -> Option<Kind>
     requires { IsTrue ((R.ring ring.now).member x.now) }
     ensures { result ≡ judged R.held (Some x.now)
         (Some (if row == column then (R.ring ring.now).one else (R.ring ring.now).zero)) }

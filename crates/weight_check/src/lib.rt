@@ -31,12 +31,11 @@ use crate::inverses::check_inverses;
 use crate::laws::{InverseLaw, SymbolLaw};
 use crate::rigid::check_rigid;
 use crate::symbols::check_symbols;
+pub use derive_symbols::WeightFault;
 use derive_symbols::derive_draft;
 use ring_laws::StarRing;
 use std::alloc::Global;
 use symbol_table::{Derived, Draft};
-
-pub use derive_symbols::WeightFault;
 
 /// The laws that come before H and S are derived.
 const BEFORE: [SymbolLaw; 6] = [
@@ -80,3 +79,6 @@ pub fn check<R: StarRing>(alloc: Global, draft: &Draft<R>) -> Result<Derived<R>,
     check_rigid(draft)?;
     Ok(derived)
 }
+
+#[cfg(test)]
+mod tests;

@@ -25,7 +25,10 @@ fn unit_f<R: StarRing>(draft: &Draft<R>, at: &[u8]) -> Option<Kind>
     if at[0] != 0 && at[1] != 0 && at[2] != 0 {
         return None;
     }
-    is_one(draft.ring(), &draft.f_at(at[0], at[1], at[2], at[3], at[4], at[5]))
+    is_one(
+        draft.ring(),
+        &draft.f_at(at[0], at[1], at[2], at[3], at[4], at[5]),
+    )
 }
 
 /// Whether one of the two labels that fuse is the unit.

@@ -28,9 +28,8 @@ returns-in_err-check_inverses g c =
 
 pub returns : goal.returns
 returns g c =
-    let symbols = draft_symbols (g.R.StarRing.ring c.args.draft.now.ring) g.R.StarRing.held c.args.draft.now in
-    (
+    let symbols = draft_symbols (g.R.StarRing.ring c.args.draft.now.ring) g.R.StarRing.held c.args.draft.now in (
       none_both symbols symbol_laws (derive_laws ++ inverse_laws) c.in_ok-check_symbols.ensures
-      (none_both symbols derive_laws inverse_laws c.in_ok-derived.ensures.told.0 c.in_ok-check_inverses.ensures),
+          (none_both symbols derive_laws inverse_laws c.in_ok-derived.ensures.told.0 c.in_ok-check_inverses.ensures),
       c.in_ok-derived.ensures.told.1,
     )
