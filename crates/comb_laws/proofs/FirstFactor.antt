@@ -1,18 +1,18 @@
 -- The factor of the first strand is one along every path.
 use mathlib.Core.Path.{fun_ext}
-use Rattle.std.proofs.Common.{◌≡◌, ℕ, Bool, true, false, List, [], ◌∷◌, map, refl, ap, sym, ◌∙◌}
+use Rattle.std.proofs.Common.{◌≡◌, ℕ, Bool, true, false, List, [], ◌∷◌, map, refl, ap, ◌∙◌}
 use Rattle.std.specs.Prelude.{if◌then◌else◌, not}
 use Rattle.std.specs.List.{AllByRecursion, flat_map, filter}
 use Rattle.ring_laws.specs.Ring.{Ring, RingLaws}
 use Rattle.ring_laws.specs.Sums.{sum_over}
 use Rattle.symbol_table.specs.Symbols.{Symbols}
-use Rattle.tree_shapes.specs.Labelled.{Labelled, leaves}
+use Rattle.tree_shapes.specs.Labelled.{leaves}
 use Rattle.program_text.specs.declared.plan.Command.{Command}
 use Rattle.comb_laws.specs.Paths.{Path, Vector, labels, ways, paths}
 use Rattle.comb_laws.specs.Operators.{weights_along, path_weight, weight}
-use Rattle.comb_laws.specs.Amplitudes.{start_vector, own_vector}
-use Rattle.comb_laws.specs.Plans.{Outcomes, after, measurements, words, rows_from, outcomes_of}
-use Rattle.comb_laws.specs.Inner.{inner_path_weight, inner_weight, inner_rows_from, inner_outcomes_of}
+use Rattle.comb_laws.specs.Amplitudes.{own_vector}
+use Rattle.comb_laws.specs.Plans.{after, measurements, words, rows_from}
+use Rattle.comb_laws.specs.Inner.{inner_path_weight, inner_weight}
 use Rattle.comb_laws.specs.Laws.{StartsAtOwnPath, FirstFactorIsOne, OutcomesAreInner}
 use Rattle.comb_laws.proofs.Gather.{along_append}
 use Rattle.comb_laws.proofs.UnitLemmas.{IsUnital}

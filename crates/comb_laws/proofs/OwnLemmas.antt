@@ -1,20 +1,20 @@
 -- From the unit, a left-combed tree is one at the path of its own labels, and zero elsewhere.
 use mathlib.Core.Path.{fun_ext}
-use Rattle.std.proofs.Common.{◌≡◌, ℕ, zero, suc, ◌+◌, ◌-◌, ◌<◌, Bool, true, false, List, [], ◌∷◌, ◌++◌, length, get_or, refl, ap, ap₂, sym, ◌∙◌, subst, arith, inl, inr, true≢false}
+use Rattle.std.proofs.Common.{◌≡◌, ℕ, zero, suc, ◌+◌, ◌-◌, ◌<◌, Bool, true, false, List, [], ◌∷◌, length, get_or, refl, ap, ap₂, sym, ◌∙◌, arith, inl, inr, true≢false}
 use Rattle.std.specs.Prelude.{if◌then◌else◌, ◌&&◌, ◌==◌, nat_lt, slice_index}
 use Rattle.std.specs.Str.{bytes_eq}
 use Rattle.std.proofs.Math.ListN.{get_or-append}
 use Rattle.std.proofs.lemmas.List.{get_or-append_right}
-use Rattle.std.proofs.lemmas.Bool.Decides.{eqb_tells, leb_tells, nat_tests}
+use Rattle.std.proofs.lemmas.Bool.Decides.{leb_tells, nat_tests}
 use Rattle.std.proofs.lemmas.Slice.Eq.{bytes_eq-Decides}
 use Rattle.ring_laws.specs.Ring.{RingLaws}
 use Rattle.ring_laws.proofs.SumLemmas.{zero-product, test_true, true_or_false}
 use Rattle.symbol_table.specs.Symbols.{Symbols}
-use Rattle.tree_shapes.specs.Labelled.{Labelled, Strand, Joined, label, leaves, size, is_strand, is_left_comb, is_admissible}
+use Rattle.tree_shapes.specs.Labelled.{Labelled, Strand, Joined, label, leaves, size, is_left_comb, is_admissible}
 use Rattle.program_text.specs.Form.{labels_below}
 use Rattle.comb_laws.specs.Paths.{Path, goes_on, is_path}
-use Rattle.comb_laws.specs.Amplitudes.{path_amplitude, start_vector, own_path, own_vector}
-use Rattle.comb_laws.specs.Laws.{is_left_start, StartsAtOwnPath}
+use Rattle.comb_laws.specs.Amplitudes.{path_amplitude, own_path, own_vector}
+use Rattle.comb_laws.specs.Laws.{StartsAtOwnPath}
 use Rattle.comb_laws.proofs.Gather.{and_true, same_path, path_along}
 use Rattle.comb_laws.proofs.StartLemmas.{length-leaves, length-own, own_is_path, LeftStart, left_start}
 use Rattle.comb_laws.proofs.UnitLemmas.{IsUnital, mark}

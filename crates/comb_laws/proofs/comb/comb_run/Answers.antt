@@ -1,5 +1,5 @@
 use Rattle.std.proofs.Common.{◌≡◌, ◌∙◌, sym, subst, true, List}
-use Rattle.std.specs.Prelude.{IfOk, ◌&&◌, nat_le}
+use Rattle.std.specs.Prelude.{IfOk}
 use Rattle.std.proofs.lemmas.Result.{IfOk-weaker}
 use Rattle.fusion_rules.specs.Fusion.{fuses}
 use Rattle.symbol_table.specs.Category.{draft_symbols}

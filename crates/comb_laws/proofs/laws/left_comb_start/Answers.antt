@@ -1,6 +1,5 @@
 use Rattle.std.proofs.Common.{subst}
 use Rattle.fusion_rules.specs.Fusion.{Fusion, AreRules}
-use Rattle.symbol_table.specs.Symbols.{Symbols}
 use Rattle.symbol_table.specs.Category.{draft_symbols}
 use Rattle.comb_laws.proofs.UnitLemmas.{IsUnital, is_unital}
 use Rattle.comb_laws.proofs.OwnLemmas.{start_is_own}
