@@ -11,7 +11,8 @@ use Rattle.program_text.specs.declared.plan.Command.{Command}
 use Rattle.program_text.specs.Program.{ProgramSite, site_of}
 use Rattle.program_text.specs.Form.{are_comb_sites, are_comb_commands, is_measured_braid}
 use Rattle.program_text.specs.Canonical.{is_main}
-use Rattle.comb_laws.specs.Plans.{Outcomes, outcomes_of}
+use Rattle.comb_laws.specs.Plans.{Outcomes}
+use Rattle.comb_laws.specs.Inner.{inner_outcomes_of}
 use Rattle.comb_laws.specs.Evaluated.{evaluation_of}
 use Rattle.comb_laws.specs.Lives.{Runs}
 use Rattle.comb_laws.specs.declared.rows.RunFault.{RunFault}
@@ -26,7 +27,7 @@ site_commands n (s ∷ t ∷ sites) site h e = absurd (cc)
 
 -- what a run answers are the outcomes of the definitions
 pub outcomes_run : {E V : Type 0} (c : Symbols E) → RingLaws c.ring c.held → (view : V → Outcomes E) (r : Result V RunFault) (tree : Labelled) (n : ℕ) (cs : List Command) → is_measured_braid n cs ≡ true
-    → Runs view r (evaluation_of c tree cs) → IfOk r (λ rows. view rows ≡ outcomes_of c tree cs)
+    → Runs view r (evaluation_of c tree cs) → IfOk r (λ rows. view rows ≡ inner_outcomes_of c tree cs)
 outcomes_run c laws view (Ok rows) tree n cs form h = evaluation_value c laws tree n cs (view rows) form h
 outcomes_run c laws view (Err fault) tree n cs form h = tt
 

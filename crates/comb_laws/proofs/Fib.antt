@@ -19,3 +19,7 @@ x = Joined (Joined t t 0) (Joined t t 0) 0
 -- ((t 1):t t):1, whose strands aren't equal
 abbrev pub mixed : Labelled
 mixed = Joined (Joined t (Strand 0) 1) t 0
+
+-- (t (t t):1):t, which isn't left-combed
+abbrev pub spread : Labelled
+spread = Joined t (Joined t t 0) 1

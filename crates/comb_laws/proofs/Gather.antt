@@ -143,7 +143,7 @@ along_row count n y k u (suc m) few along = (
   along_row count n y k (u + 1) m (omega arith) along,
 )
 
-along_append : {X : Type 0} (P : X → Type 0) (xs ys : List X) → AllByRecursion P xs → AllByRecursion P ys → AllByRecursion P (xs ++ ys)
+pub along_append : {X : Type 0} (P : X → Type 0) (xs ys : List X) → AllByRecursion P xs → AllByRecursion P ys → AllByRecursion P (xs ++ ys)
 along_append P [] ys a b = b
 along_append P (x ∷ xs) ys a b = (a.0, along_append P xs ys a.1 b)
 

@@ -16,9 +16,10 @@ use Rattle.program_text.specs.declared.plan.Command.{Command}
 use Rattle.program_text.specs.declared.plan.Command.TheVariants.{Braid, Raise, Measure}
 use Rattle.program_text.specs.Form.{is_gap, is_measured_braid}
 use Rattle.comb_laws.specs.Paths.{Path, Vector, labels, paths}
-use Rattle.comb_laws.specs.Operators.{swapped, braided, projected, weights_along, path_weight, weight, charge_kernel}
+use Rattle.comb_laws.specs.Operators.{swapped, braided, projected, weights_along, charge_kernel}
 use Rattle.comb_laws.specs.Amplitudes.{own_path, own_vector}
-use Rattle.comb_laws.specs.Plans.{Outcomes, word_weight, rows_from, outcomes_of}
+use Rattle.comb_laws.specs.Plans.{Outcomes}
+use Rattle.comb_laws.specs.Inner.{inner_path_weight, inner_weight, inner_word_weight, inner_rows_from, inner_outcomes_of}
 use Rattle.comb_laws.specs.Evaluated.{braided_fits, weights_along_at, path_weight_at, weight_term_at, weight_step, weight_at, is_nought, outcomes_at, row_step, rows_at, at_turn, ◌>>>◌, rest_of, one_word, evaluation_of}
 use Rattle.comb_laws.proofs.Gather.{and_true}
 use Rattle.comb_laws.proofs.ActLemmas.{acted_is}
@@ -33,7 +34,7 @@ weights_along_value {E} c (s ∷ ss) (x ∷ xs) begun p w e =
     weights_along_value c ss xs first.0 x w first.2
     ∙ ap (λ b. weights_along c b x ss xs) (product_given c.ring begun (c.w p s x) first.0 first.1)
 
-path_weight_value : {E : Type 0} (c : Symbols E) (ss : List ℕ) (x : Path) (w : E) → path_weight_at c ss x ≡ Some w → w ≡ path_weight c ss x
+path_weight_value : {E : Type 0} (c : Symbols E) (ss : List ℕ) (x : Path) (w : E) → path_weight_at c ss x ≡ Some w → w ≡ inner_path_weight c ss x
 path_weight_value c [] x w e = sym (some_inj c.ring.one w e)
 path_weight_value c (s ∷ ss) [] w e = sym (some_inj c.ring.one w e)
 path_weight_value c (s ∷ ss) (x ∷ []) w e = sym (some_inj c.ring.one w e)
@@ -52,15 +53,15 @@ weight_term_value {E} r o k v s w gives e =
 module _ {E : Type 0} (c : Symbols E) (laws : RingLaws c.ring c.held) where
   -- the term of a path in a weight
   abbrev term : List ℕ → Vector E → Path → E
-  term strands v x = c.ring.product (path_weight c strands x) (c.ring.product (v x) (c.ring.conjugate (v x)))
+  term strands v x = c.ring.product (inner_path_weight c strands x) (c.ring.product (v x) (c.ring.conjugate (v x)))
 
   is_zero_of : (x : E) → IsTrue (c.ring.member x) → c.held.is_zero x ≡ true → x ≡ c.ring.zero
   is_zero_of x m z = (laws.is_zero_is x m).0 z
 
   term_zero : (strands : List ℕ) (v : Vector E) (x : Path) → v x ≡ c.ring.zero → term strands v x ≡ c.ring.zero
   term_zero strands v x e =
-      ap (λ y. c.ring.product (path_weight c strands x) (c.ring.product y (c.ring.conjugate (v x)))) e
-      ∙ (ap (c.ring.product (path_weight c strands x)) (zero-product laws (c.ring.conjugate (v x))) ∙ laws.product-zero (path_weight c strands x))
+      ap (λ y. c.ring.product (inner_path_weight c strands x) (c.ring.product y (c.ring.conjugate (v x)))) e
+      ∙ (ap (c.ring.product (inner_path_weight c strands x)) (zero-product laws (c.ring.conjugate (v x))) ∙ laws.product-zero (inner_path_weight c strands x))
 
   module _ (strands : List ℕ) (v : Vector E) (members : (x : Path) → IsTrue (c.ring.member (v x))) where
     step_value : (x : Path) (s w : E) → IsTrue (c.ring.member s) → weight_step c strands v x s ≡ Some w → w ≡ c.ring.sum s (term strands v x)
@@ -69,13 +70,13 @@ module _ {E : Type 0} (c : Symbols E) (laws : RingLaws c.ring c.held) where
         pick : (z : Bool) → c.held.is_zero (v x) ≡ z → (if z then Some s else weight_term_at c.ring (path_weight_at c strands x) (v x) s) ≡ Some w → w ≡ c.ring.sum s (term strands v x)
         pick true is e =
             sym (some_inj s w e) ∙ (sym (laws.sum-zero s m) ∙ ap (c.ring.sum s) (sym (term_zero strands v x (is_zero_of (v x) (members x) is))))
-        pick false is e = weight_term_value c.ring (path_weight_at c strands x) (path_weight c strands x) (v x) s w (path_weight_value c strands x) e
+        pick false is e = weight_term_value c.ring (path_weight_at c strands x) (inner_path_weight c strands x) (v x) s w (path_weight_value c strands x) e
 
     -- what the weight's evaluation gives is the weight
-    pub weight_value : (w : E) → weight_at c strands v ≡ Some w → w ≡ weight c strands v
+    pub weight_value : (w : E) → weight_at c strands v ≡ Some w → w ≡ inner_weight c strands v
     weight_value w e =
         steps_over_total laws (weight_step c strands v) (term strands v) step_value (paths c strands) c.ring.zero w laws.zero_is e
-        ∙ zero-sum laws (weight c strands v) (sum_over_is laws (term strands v) (paths c strands))
+        ∙ zero-sum laws (inner_weight c strands v) (sum_over_is laws (term strands v) (paths c strands))
 
     sum_nought : (xs : List Path) → list_all (λ x. c.held.is_zero (v x)) xs ≡ true → sum_over c.ring (term strands v) xs ≡ c.ring.zero
     sum_nought [] h = refl
@@ -84,13 +85,13 @@ module _ {E : Type 0} (c : Symbols E) (laws : RingLaws c.ring c.held) where
         (λ j. c.ring.sum (term_zero strands v x (is_zero_of (v x) (members x) parts.0) j) (sum_nought xs parts.1 j)) ∙ laws.sum-zero c.ring.zero laws.zero_is
 
     -- the vector that is zero everywhere has no weight
-    weight_nought : is_nought c strands v ≡ true → c.held.is_zero (weight c strands v) ≡ true
+    weight_nought : is_nought c strands v ≡ true → c.held.is_zero (inner_weight c strands v) ≡ true
     weight_nought h = ap c.held.is_zero (sum_nought (paths c strands) h) ∙ (laws.is_zero_is c.ring.zero laws.zero_is).1 refl
 
   module _ (strands : List ℕ) (k : ℕ) (v : Vector E) where
     -- the row of a charge
     abbrev row : ℕ → List ℕ × E
-    row q = (q ∷ [], weight c strands (projected c strands k q v))
+    row q = (q ∷ [], inner_weight c strands (projected c strands k q v))
 
     abbrev keeps : List ℕ × E → Bool
     keeps r = not (c.held.is_zero r.1)
@@ -117,7 +118,7 @@ module _ {E : Type 0} (c : Symbols E) (laws : RingLaws c.ring c.held) where
         pick false some h below =
             let first = bind_some (row_step c strands (outcome c strands k v q) acc) (λ (n : List (List ℕ × E)). steps_over (row_step c strands) (filter (λ l. not (is_nought c strands l.vector)) (map (outcome c strands k v) qs)) n) rows h in
             let inner = bind_some (weight_at c strands (projected c strands k q v)) (λ (w : E). Some (if c.held.is_zero w then acc else acc ++ (q ∷ [], w) ∷ [])) first.0 first.1 in
-            let is : inner.0 ≡ weight c strands (projected c strands k q v) = weight_value strands (projected c strands k q v) (projected_is q) inner.0 inner.1 in
+            let is : inner.0 ≡ inner_weight c strands (projected c strands k q v) = weight_value strands (projected c strands k q v) (projected_is q) inner.0 inner.1 in
             let made : first.0 ≡ (if c.held.is_zero (row q).1 then acc else acc ++ row q ∷ []) =
             sym (some_inj _ first.0 inner.2) ∙ ap (λ w. if c.held.is_zero w then acc else acc ++ (q ∷ [], w) ∷ []) is in
             below first.0 rows first.2
@@ -128,10 +129,10 @@ module _ {E : Type 0} (c : Symbols E) (laws : RingLaws c.ring c.held) where
     map_map f g (x ∷ xs) = ap (λ l. f (g x) ∷ l) (map_map f g xs)
 
     -- the rows of one measurement
-    measured_rows : rows_from c strands v (Measure k ∷ []) ≡ filter keeps (map row (labels c.count))
+    measured_rows : inner_rows_from c strands v (Measure k ∷ []) ≡ filter keeps (map row (labels c.count))
     measured_rows =
-        ap (λ ws. filter keeps (map (λ word. (word, word_weight c strands v (Measure k ∷ []) word)) ws)) (flat_map_single (λ (q : ℕ). q ∷ []) (labels c.count))
-        ∙ ap (filter keeps) (map_map (λ (word : List ℕ). (word, word_weight c strands v (Measure k ∷ []) word)) (λ (q : ℕ). q ∷ []) (labels c.count))
+        ap (λ ws. filter keeps (map (λ word. (word, inner_word_weight c strands v (Measure k ∷ []) word)) ws)) (flat_map_single (λ (q : ℕ). q ∷ []) (labels c.count))
+        ∙ ap (filter keeps) (map_map (λ (word : List ℕ). (word, inner_word_weight c strands v (Measure k ∷ []) word)) (λ (q : ℕ). q ∷ []) (labels c.count))
 
   at_turn_ok : {A : Type 0} (turn : ℕ) (o : Option A) (x : A) → at_turn turn o ≡ Ok x → o ≡ Some x
   at_turn_ok turn None x e = absurd (cc)
@@ -139,13 +140,13 @@ module _ {E : Type 0} (c : Symbols E) (laws : RingLaws c.ring c.held) where
 
   -- what is left of a run gives the rows of what is left
   pub run_value : (n : ℕ) (cs : List Command) (turn : ℕ) (strands : List ℕ) (v : Vector E) (rows : List (List ℕ × E)) → is_measured_braid n cs ≡ true
-      → rest_of c turn cs strands (one_word v) ≡ Ok rows → rows ≡ rows_from c strands v cs
+      → rest_of c turn cs strands (one_word v) ≡ Ok rows → rows ≡ inner_rows_from c strands v cs
   run_value n [] turn strands v rows form e = absurd (cc)
   run_value n (Raise k ∷ cs) turn strands v rows form e = absurd (cc)
   run_value n (Measure k ∷ x ∷ cs) turn strands v rows form e = absurd (cc)
   run_value n (Measure k ∷ []) turn strands v rows form e = pick (all_fit c strands k turn v) refl
     where
-      pick : (b : Bool) → all_fit c strands k turn v ≡ b → rows ≡ rows_from c strands v (Measure k ∷ [])
+      pick : (b : Bool) → all_fit c strands k turn v ≡ b → rows ≡ inner_rows_from c strands v (Measure k ∷ [])
       pick true fits =
           let weigh : rows_at c strands (outcomes_at c strands k (record { word = []; vector = v })) ≡ Some rows =
           at_turn_ok (turn + 1) (rows_at c strands (outcomes_at c strands k (record { word = []; vector = v }))) rows
@@ -157,8 +158,8 @@ module _ {E : Type 0} (c : Symbols E) (laws : RingLaws c.ring c.held) where
       (run_value n cs (turn + 1) (swapped strands k) (braided c strands sign k v) rows (and_true (is_gap n k) (is_measured_braid n cs) form).1)
     where
       pick : (b : Bool) → braided_fits c strands sign k v ≡ b
-          → (rest_of c (turn + 1) cs (swapped strands k) (one_word (braided c strands sign k v)) ≡ Ok rows → rows ≡ rows_from c (swapped strands k) (braided c strands sign k v) cs)
-          → rows ≡ rows_from c strands v (Braid k sign ∷ cs)
+          → (rest_of c (turn + 1) cs (swapped strands k) (one_word (braided c strands sign k v)) ≡ Ok rows → rows ≡ inner_rows_from c (swapped strands k) (braided c strands sign k v) cs)
+          → rows ≡ inner_rows_from c strands v (Braid k sign ∷ cs)
       pick true fits rest = rest (sym (braid_one c strands k turn v sign cs (swapped strands k) (braided c strands sign k v) fits refl refl) ∙ e)
       pick false fails rest = absurd (cc (sym e ∙ braid_fails c strands k turn v sign cs fails))
 
@@ -174,13 +175,13 @@ module _ {E : Type 0} (c : Symbols E) (laws : RingLaws c.ring c.held) where
   after_ok (Ok x) f y e = (x, refl, e)
 
   -- what a comb program's evaluation gives is its total and its rows
-  pub evaluation_value : (tree : Labelled) (n : ℕ) (cs : List Command) (o : Outcomes E) → is_measured_braid n cs ≡ true → evaluation_of c tree cs ≡ Ok o → o ≡ outcomes_of c tree cs
+  pub evaluation_value : (tree : Labelled) (n : ℕ) (cs : List Command) (o : Outcomes E) → is_measured_braid n cs ≡ true → evaluation_of c tree cs ≡ Ok o → o ≡ inner_outcomes_of c tree cs
   evaluation_value tree n cs o form e =
       let start = own_vector c.ring tree in
       let first = after_ok (at_turn 0 (weight_at c (leaves tree) start)) (λ (sum : E). rest_of c 1 cs (leaves tree) (one_word start) >>> λ rows. Ok (record { total = sum; rows = rows })) o e in
       let second = after_ok (rest_of c 1 cs (leaves tree) (one_word start)) (λ (rows : List (List ℕ × E)). Ok (record { total = first.0; rows = rows })) o first.2 in
-      let sum : first.0 ≡ weight c (leaves tree) start = weight_value (leaves tree) start (own_is tree) first.0 (at_turn_ok 0 (weight_at c (leaves tree) start) first.0 first.1) in
-      let rows : second.0 ≡ rows_from c (leaves tree) start cs = run_value n cs 1 (leaves tree) start second.0 form second.1 in
+      let sum : first.0 ≡ inner_weight c (leaves tree) start = weight_value (leaves tree) start (own_is tree) first.0 (at_turn_ok 0 (weight_at c (leaves tree) start) first.0 first.1) in
+      let rows : second.0 ≡ inner_rows_from c (leaves tree) start cs = run_value n cs 1 (leaves tree) start second.0 form second.1 in
       sym (ok_inj (record { total = first.0; rows = second.0 }) o second.2) ∙ (λ j. record { total = sum j; rows = rows j })
     where
       ok_inj : (x y : Outcomes E) → (let r : Result (Outcomes E) ℕ = Ok x in r ≡ Ok y) → x ≡ y

@@ -1,6 +1,6 @@
 -- One turn of a run.
 use Rattle.std.proofs.Common.{◌≡◌, ℕ, suc, ◌+◌, ◌<◌, Bool, true, false, List, [], ◌∷◌, length, Some, None, refl, ap, sym, ◌∙◌, arith}
-use Rattle.std.specs.Prelude.{◌&&◌, Ok, Err, nat_lt}
+use Rattle.std.specs.Prelude.{◌&&◌, Result, Ok, Err, nat_lt}
 use Rattle.std.specs.List.{list_all}
 use Rattle.std.proofs.lemmas.List.{append-nil}
 use Rattle.std.proofs.lemmas.Bool.Decides.{nat_tests}
@@ -12,6 +12,11 @@ use Rattle.program_text.specs.Form.{is_gap, is_measured_braid}
 use Rattle.comb_laws.specs.Paths.{Vector, labels}
 use Rattle.comb_laws.specs.Operators.{swapped, braided}
 use Rattle.comb_laws.specs.Evaluated.{Live, braided_fits, projected_fits, outcomes_at, rows_at, at_turn, rest_of, one_word}
+use Rattle.comb_laws.specs.Lives.{Stops}
+use Rattle.comb_laws.specs.declared.fault.StepFault.{StepFault}
+use Rattle.comb_laws.specs.declared.fault.StepFault.TheVariants.{TooLarge, NoRoom}
+use Rattle.comb_laws.specs.declared.rows.RunFault.{RunFault}
+use Rattle.comb_laws.specs.declared.rows.RunFault.TheVariants.{Overflow, Memory}
 use Rattle.comb_laws.proofs.Gather.{and_true}
 
 and_one : (b d : Bool) → b ≡ d → (b && true) ≡ d
@@ -86,3 +91,9 @@ no_raise n k cs h = cc
 
 pub no_end : (n : ℕ) → is_measured_braid n [] ≡ true → ⊥
 no_end n h = cc
+
+-- a step that stops in a turn stops the run there
+pub stops_there : {A : Type 0} (fault : StepFault) (told : RunFault) (turn : ℕ) (stated : Result A ℕ) → (fault ≡ TooLarge → told ≡ Overflow turn) → (fault ≡ NoRoom → told ≡ Memory)
+    → (fault ≡ TooLarge → stated ≡ Err turn) → Stops told stated
+stops_there TooLarge told turn stated large room is = rw (large refl) (is refl)
+stops_there NoRoom told turn stated large room is = rw (room refl) tt

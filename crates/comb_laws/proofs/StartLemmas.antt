@@ -9,6 +9,7 @@ use Rattle.tree_shapes.specs.Labelled.{Labelled, Strand, Joined, label, leaves, 
 use Rattle.program_text.specs.Form.{labels_below, is_comb_start}
 use Rattle.comb_laws.specs.Paths.{goes_on, is_path}
 use Rattle.comb_laws.specs.Amplitudes.{own_path}
+use Rattle.comb_laws.specs.Laws.{is_left_start}
 use Rattle.comb_laws.proofs.Gather.{and_true}
 
 pub length-leaves : (t : Labelled) → length (leaves t) ≡ size t
@@ -16,12 +17,16 @@ length-leaves (Strand a) = refl
 length-leaves (Joined l r q) = length-append (leaves l) (leaves r) ∙ (λ j. length-leaves l j + length-leaves r j)
 
 -- what a left-combed start meets
-pub record CombStart (fuse : ℕ → ℕ → ℕ → Bool) (count : ℕ) (t : Labelled) : Type 0 where
-  pub two : 2 ≤ size t
-  pub few : size t ≤ 16
+pub record LeftStart (fuse : ℕ → ℕ → ℕ → Bool) (count : ℕ) (t : Labelled) : Type 0 where
   pub comb : is_left_comb t ≡ true
   pub below : labels_below count t ≡ true
   pub admissible : is_admissible fuse t ≡ true
+
+pub left_start : (fuse : ℕ → ℕ → ℕ → Bool) (count : ℕ) (t : Labelled) → is_left_start fuse count t ≡ true → LeftStart fuse count t
+left_start fuse count t h =
+    let d = and_true (is_left_comb t) (labels_below count t && is_admissible fuse t) h in
+    let e = and_true (labels_below count t) (is_admissible fuse t) d.1 in
+    record { comb = d.0; below = e.0; admissible = e.1 }
 
 le_of : (a b : ℕ) → nat_le a b ≡ true → a ≤ b
 le_of a b h = grind (arith, nat_tests)
@@ -29,13 +34,16 @@ le_of a b h = grind (arith, nat_tests)
 lt_of : (a b : ℕ) → nat_lt a b ≡ true → a < b
 lt_of a b h = grind (arith, nat_tests)
 
+-- the start of a comb program: at most 16 strands
+pub record CombStart (fuse : ℕ → ℕ → ℕ → Bool) (count : ℕ) (t : Labelled) : Type 0 where
+  pub few : size t ≤ 16
+  pub left : is_left_start fuse count t ≡ true
+
 pub comb_start : (fuse : ℕ → ℕ → ℕ → Bool) (count : ℕ) (t : Labelled) → is_comb_start fuse count t ≡ true → CombStart fuse count t
 comb_start fuse count t h =
-    let a = and_true (nat_le 2 (size t)) (nat_le (size t) 16 && (is_left_comb t && (labels_below count t && is_admissible fuse t))) h in
-    let b = and_true (nat_le (size t) 16) (is_left_comb t && (labels_below count t && is_admissible fuse t)) a.1 in
-    let d = and_true (is_left_comb t) (labels_below count t && is_admissible fuse t) b.1 in
-    let e = and_true (labels_below count t) (is_admissible fuse t) d.1 in
-    record { two = le_of 2 (size t) a.0; few = le_of (size t) 16 b.0; comb = d.0; below = e.0; admissible = e.1 }
+    let a = and_true (nat_le 2 (size t)) (nat_le (size t) 16 && is_left_start fuse count t) h in
+    let b = and_true (nat_le (size t) 16) (is_left_start fuse count t) a.1 in
+    record { few = le_of (size t) 16 b.0; left = b.1 }
 
 all_append : (n : ℕ) (xs ys : List ℕ) → AllByRecursion (λ s. s < n) xs → AllByRecursion (λ s. s < n) ys → AllByRecursion (λ s. s < n) (xs ++ ys)
 all_append n [] ys a b = b
@@ -116,5 +124,5 @@ module _ {E : Type 0} (c : Symbols E) where
       goes_more 0 a q (leaves l) (own_rest l) (own_goes l units comb d.0 f.0) (ap (λ m. c.fuse m a q) (own_last l) ∙ e.0) (lt_of q c.count b.0)
 
   -- the own labels are a path over the strands
-  pub own_is_path : (t : Labelled) → ((a : ℕ) → a < c.count → c.fuse 0 a a ≡ true) → CombStart c.fuse c.count t → is_path c (leaves t) (own_path t) ≡ true
+  pub own_is_path : (t : Labelled) → ((a : ℕ) → a < c.count → c.fuse 0 a a ≡ true) → LeftStart c.fuse c.count t → is_path c (leaves t) (own_path t) ≡ true
   own_is_path t units start = ap (is_path c (leaves t)) (own_is t) ∙ own_goes t units start.comb start.below start.admissible

@@ -4,7 +4,7 @@ use Rattle.std.specs.Str.{bytes_eq}
 use Rattle.ring_laws.specs.Ring.{Ring}
 use Rattle.ring_laws.specs.Sums.{sum_over}
 use Rattle.symbol_table.specs.Symbols.{Symbols}
-use Rattle.tree_shapes.specs.Labelled.{Labelled, Strand, Joined, label, size}
+use Rattle.tree_shapes.specs.Labelled.{Labelled, Strand, Joined, label, leaves, size}
 use Rattle.comb_laws.specs.Paths.{Path, Vector, is_path}
 
 -- The path amplitude of a labelled tree whose first strand is strand i + 1, along the labels x of a path by place:
@@ -24,6 +24,11 @@ stands_for c strands labelled entries x =
     if is_path c strands x
     then sum_over c.ring (λ e. c.ring.product e.1 (path_amplitude c (labelled e.0) (slice_index x) 0)) entries
     else c.ring.zero
+
+-- The start vector of a tree: at each path over its strands the tree's path amplitude from the unit.
+abbrev pub start_vector : {E : Type 0} → Symbols E → Labelled → Vector E
+start_vector c tree x =
+    if is_path c (leaves tree) x then path_amplitude c tree (slice_index x) 0 else c.ring.zero
 
 -- the path of a left-combed tree's own labels
 abbrev pub own_path : Labelled → Path

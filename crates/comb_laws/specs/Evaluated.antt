@@ -81,6 +81,7 @@ weights_along_at c begun p (s ∷ ss) (x ∷ xs) = do
   weights_along_at c next x ss xs
 weights_along_at c begun p ss xs = Some begun
 
+-- the weights over the nodes of a left-combed tree, one for each strand behind the first
 abbrev pub path_weight_at : {E : Type 0} → Symbols E → List ℕ → Path → Option E
 path_weight_at c (s ∷ strands) (x_0 ∷ x_1 ∷ xs) = weights_along_at c c.ring.one x_1 strands xs
 path_weight_at c strands x = Some c.ring.one
@@ -165,7 +166,7 @@ abbrev pub one_word : {E : Type 0} → Vector E → List (Live E)
 one_word v = record { word = []; vector = v } ∷ []
 
 -- The total and the rows of a left-combed start and its commands, or the turn of the first item that doesn't fit: turn 0
--- evaluates the total, each command is a turn from 1 on.
+-- evaluates the total, each command is a turn from 1 on. The start has the amplitude one at the tree's own path.
 abbrev pub evaluation_of : {E : Type 0} → Symbols E → Labelled → List Command → Result (Outcomes E) ℕ
 evaluation_of c tree commands =
     let start = own_vector c.ring tree in

@@ -2,6 +2,8 @@ pub mod Amplitudes
 pub mod Comb
 pub mod Entries
 pub mod Evaluated
+pub mod Inner
+pub mod Laws
 pub mod Lives
 pub mod Operations
 pub mod Operators

@@ -1,5 +1,5 @@
 -- What braids, measurements and weights are on comb vectors.
-use Rattle.std.specs.Prelude.{ℕ, ◌+◌, ◌-◌, List, ◌∷◌, if◌then◌else◌, slice_index, slice_set}
+use Rattle.std.specs.Prelude.{ℕ, ◌+◌, ◌-◌, List, [], ◌∷◌, if◌then◌else◌, slice_index, slice_set}
 use Rattle.ring_laws.specs.Sums.{total, sum_over}
 use Rattle.symbol_table.specs.Symbols.{Symbols}
 use Rattle.comb_laws.specs.Paths.{Path, Vector, paths, is_path}
@@ -60,10 +60,10 @@ abbrev pub weights_along : {E : Type 0} → Symbols E → E → ℕ → List ℕ
 weights_along c begun p (s ∷ ss) (x ∷ xs) = weights_along c (c.ring.product begun (c.w p s x)) x ss xs
 weights_along c begun p ss xs = begun
 
--- w(x_1,s_2,x_2) .. w(x_(n-1),s_n,x_n), begun at one
+-- w(x_0,s_1,x_1) .. w(x_(n-1),s_n,x_n), begun at one
 abbrev pub path_weight : {E : Type 0} → Symbols E → List ℕ → Path → E
-path_weight c (s ∷ strands) (x_0 ∷ x_1 ∷ xs) = weights_along c c.ring.one x_1 strands xs
-path_weight c strands x = c.ring.one
+path_weight c strands (x ∷ xs) = weights_along c c.ring.one x strands xs
+path_weight c strands [] = c.ring.one
 
 -- The weight: the sum over all paths of the path's weight times v(x) conj(v(x)).
 abbrev pub weight : {E : Type 0} → Symbols E → List ℕ → Vector E → E

@@ -5,7 +5,7 @@ use Rattle.symbol_table.specs.Symbols.{Symbols}
 use Rattle.tree_shapes.specs.Labelled.{Labelled, leaves}
 use Rattle.comb_laws.specs.Paths.{Vector, labels}
 use Rattle.comb_laws.specs.Operators.{braided, projected, swapped, weight}
-use Rattle.comb_laws.specs.Amplitudes.{own_vector}
+use Rattle.comb_laws.specs.Amplitudes.{start_vector}
 use Rattle.program_text.specs.declared.plan.Command.{Command}
 use Rattle.program_text.specs.declared.plan.Command.TheVariants.{Braid, Raise, Measure}
 
@@ -41,12 +41,13 @@ rows_from c strands v commands =
     filter (λ row. not (c.held.is_zero row.1))
     (map (λ word. (word, word_weight c strands v commands word)) (words c.count (measurements commands)))
 
--- The rows and the total of a left-combed start and its commands.
+-- The total and the rows of a start and its commands.
 pub record Outcomes (E : Type 0) : Type 0 where
   pub total : E
   pub rows : List (List ℕ × E)
 
+-- The outcomes of a start tree under the commands: the start vector's weight, and the rows from that vector.
 abbrev pub outcomes_of : {E : Type 0} → Symbols E → Labelled → List Command → Outcomes E
 outcomes_of c tree commands =
-    let start = own_vector c.ring tree in
+    let start = start_vector c tree in
     record { total = weight c (leaves tree) start; rows = rows_from c (leaves tree) start commands }

@@ -1,10 +1,9 @@
-//! The engine's call: a comb program over a draft.
+//! The engine's call: a comb program in a category.
 
 ghost use Rattle.std.specs.Prelude.{◌≡◌, ◌<◌, ◌≤◌, length, IfOk, true};
 ghost use Rattle.fusion_rules.specs.Fusion.{fuses};
 ghost use Rattle.symbol_table.specs.Symbols.{symbols_of};
-ghost use Rattle.symbol_table.specs.Draft.{given};
-ghost use Rattle.symbol_table.specs.Derived.{HoldsSymbols};
+ghost use Rattle.symbol_table.specs.Category.{draft_symbols};
 ghost use Rattle.tree_shapes.specs.Views.{labelled};
 ghost use Rattle.tree_shapes.specs.Labelled.{leaves, size};
 ghost use Rattle.program_text.specs.Program.{program_of};
@@ -14,14 +13,15 @@ ghost use Rattle.comb_laws.specs.Plans.{outcomes_of};
 ghost use Rattle.comb_laws.specs.Evaluated.{evaluation_of};
 ghost use Rattle.comb_laws.specs.Lives.{Runs};
 
+use crate::laws::left_comb_start;
 use crate::rows::{Rows, RunFault};
 use crate::run::run;
-use crate::source::{DraftSymbols, SymbolSource};
+use crate::source::SymbolSource;
 use crate::start::{Strands, own_vector, push_leaves};
 use program_text::{Command, Plan};
 use ring_laws::{Overflow, StarRing};
 use std::alloc::Global;
-use symbol_table::{Derived, Draft};
+use symbol_table::Category;
 use tree_shapes::Tree;
 
 /// Runs commands from a left-combed tree.
@@ -50,27 +50,25 @@ fn comb_rows<R: StarRing, S: SymbolSource<R>>(
     Ok(Rows { total, list })
 }
 
-/// The total and the rows of a comb program over a draft, with the H and S derived from it.
+/// The total and the rows of a comb program in a category.
 ///
 /// The program has the one site with all strands, an admissible left-combed start of 2 to 16 strands, and at most
-/// 4,096 commands: braids, and one measurement behind them. The draft needs not be lawful. `Overflow` comes exactly at
-/// the turn of the first item that doesn't fit: turn 0 evaluates the total, each command is a turn, and the turn after
-/// the last one evaluates the weights of the outcomes. The conventions are those of Kitaev 2006, Appendix E.
-pub fn comb_draft<R: StarRing>(
+/// 4,096 commands: braids, and one measurement behind them. `Overflow` comes exactly at the turn of the first item
+/// that doesn't fit: turn 0 evaluates the total, each command is a turn, and the turn after the last one evaluates
+/// the weights of the outcomes. The conventions are those of Kitaev 2006, Appendix E.
+pub fn comb_run<R: StarRing>(
     alloc: Global,
-    draft: &Draft<R>,
-    derived: &Derived<R>,
+    category: &Category<R>,
     plan: &Plan,
 ) -> Result<Rows<R>, RunFault>
-    requires form { is_comb_program (fuses draft.now.rules) draft.now.rules.count (program_of plan.now) ≡ true }
-    requires holds { HoldsSymbols (R.ring draft.now.ring) (given draft.now) derived.now }
-    // The total and the rows are those of the comb operators.
-    ensures rows { let c = symbols_of (R.ring draft.now.ring) R.held (given draft.now) in
+    requires form { is_comb_program (fuses category.now.rules) category.now.rules.count (program_of plan.now) ≡ true }
+    // The total and the rows are those of the comb operators on the start's path amplitudes.
+    ensures rows { let c = draft_symbols (R.ring category.now.ring) R.held category.now in
         IfOk result (λ rows. outcomes_in rows ≡ outcomes_of c (labelled plan.now.start) (commands_of (program_of plan.now))) }
     // It stops exactly where the stated evaluation does.
-    ensures evaluated { let c = symbols_of (R.ring draft.now.ring) R.held (given draft.now) in
+    ensures evaluated { let c = draft_symbols (R.ring category.now.ring) R.held category.now in
         Runs outcomes_in result (evaluation_of c (labelled plan.now.start) (commands_of (program_of plan.now))) }
 {
-    let source = DraftSymbols { draft, derived };
-    comb_rows(alloc, &source, &plan.start, &plan.sites[0].commands)
+    left_comb_start(category);
+    comb_rows(alloc, category, &plan.start, &plan.sites[0].commands)
 }

@@ -7,6 +7,11 @@
 //! - *comb braid*, *comb projection*, *comb weight*: what braids, outcomes of measurements and weights are
 //!   on comb vectors (`specs/Operators.antt`).
 //! - *path amplitude*: the value of a labelled tree along a path (`specs/Amplitudes.antt`).
+//! - *start vector*: the path amplitudes of the start tree from the unit (`specs/Amplitudes.antt`).
+//! - *own vector*: one at the path of a left-combed tree's own labels, else zero (`specs/Amplitudes.antt`).
+//! - *inner weight*, *inner outcomes*: those without the first strand's factor, from the own vector, which the
+//!   engine evaluates (`specs/Inner.antt`); in a category they are the weight and the outcomes
+//!   (`specs/Laws.antt`).
 //! - *rows of a plan*: the words of outcomes whose weight isn't zero (`specs/Plans.antt`).
 //! - *stated evaluation*: which products, sums and conjugates arise, in their order (`specs/Evaluated.antt`).
 #![tactic(auto)]
@@ -15,6 +20,7 @@ mod act;
 mod comb;
 mod fault;
 mod kernel;
+pub mod laws;
 mod live;
 mod rows;
 mod run;
@@ -24,5 +30,5 @@ mod terms;
 mod vector;
 mod weigh;
 
-pub use comb::comb_draft;
+pub use comb::comb_run;
 pub use rows::{Row, Rows, RunFault};

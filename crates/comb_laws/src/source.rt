@@ -1,10 +1,9 @@
 ghost use Rattle.std.specs.Prelude.{◌≡◌, ◌<◌, ◌≤◌, ℕ, IsTrue, true};
 ghost use Rattle.symbol_table.specs.Symbols.{Given, f_admissible, f_of, h_of, s_of, vertex_of};
 ghost use Rattle.symbol_table.specs.Draft.{given};
-ghost use Rattle.symbol_table.specs.Derived.{HoldsSymbols};
 
 use ring_laws::StarRing;
-use symbol_table::{Derived, Draft, FIndex, VIndex};
+use symbol_table::{Category, FIndex, VIndex};
 
 /// Where an engine reads the symbols of a category: each at the admissible indices.
 pub(crate) trait SymbolSource<R: StarRing> {
@@ -55,48 +54,40 @@ pub(crate) trait SymbolSource<R: StarRing> {
         ensures member { IsTrue ((R.ring (base self.now)).member result) };
 }
 
-/// The symbols of a draft, with those derived from it.
-#[derive(Drop)]
-pub(crate) struct DraftSymbols<'a, R: StarRing> {
-    pub(crate) draft: &'a Draft<R>,
-    pub(crate) derived: &'a Derived<R>,
-    ghost holds: { HoldsSymbols (R.ring draft.now.ring) (given draft.now) derived.now },
-}
+impl<R: StarRing> SymbolSource<R> for Category<R> {
+    ghost base = { λ c. c.ring };
 
-impl<'a, R: StarRing> SymbolSource<R> for DraftSymbols<'a, R> {
-    ghost base = { λ s. s.draft.now.ring };
-
-    ghost given = { λ s. given s.draft.now };
+    ghost given = { λ c. given c };
 
     fn ring(&self) -> &R {
-        self.draft.ring()
+        self.ring()
     }
 
     fn count(&self) -> u8 {
-        self.draft.rules().count()
+        self.rules().count()
     }
 
     fn allows(&self, a: u8, b: u8, c: u8) -> bool {
-        self.draft.rules().allows(a, b, c)
+        self.rules().allows(a, b, c)
     }
 
     fn f(&self, at: &FIndex) -> R::Elem {
-        self.draft.f(at)
+        self.f(at)
     }
 
     fn h(&self, at: &FIndex) -> R::Elem {
-        self.derived.h(self.draft.ring(), at)
+        self.h(at)
     }
 
     fn r(&self, at: &VIndex) -> R::Elem {
-        self.draft.r(at)
+        self.r(at)
     }
 
     fn s(&self, at: &VIndex) -> R::Elem {
-        self.derived.s(self.draft.ring(), at)
+        self.s(at)
     }
 
     fn w(&self, at: &VIndex) -> R::Elem {
-        self.draft.w(at)
+        self.w(at)
     }
 }

@@ -1,0 +1,20 @@
+//! What the laws of a category say of comb vectors.
+
+ghost use Rattle.symbol_table.specs.Category.{draft_symbols};
+ghost use Rattle.comb_laws.specs.Laws.{FirstFactorIsOne, OutcomesAreInner, StartsAtOwnPath};
+
+use ring_laws::StarRing;
+use symbol_table::Category;
+
+/// From the unit, a left-combed tree is one at the path of its own labels and zero at every other, and the
+/// factor of the first strand in a weight is one. So the engine may start there and leave that factor out.
+///
+/// It rests on the laws of the unit, on the inverse weights and on the formula of H.
+pub fn left_comb_start<R: StarRing>(category: &Category<R>)
+    ensures start { StartsAtOwnPath (draft_symbols (R.ring category.now.ring) R.held category.now) }
+    ensures weight { FirstFactorIsOne (draft_symbols (R.ring category.now.ring) R.held category.now) }
+    ensures outcomes { OutcomesAreInner (draft_symbols (R.ring category.now.ring) R.held category.now) }
+{
+    let _lawful = category.draft();
+    let _count = category.rules().count();
+}
