@@ -6,3 +6,5 @@ pub mod WholeLemmas
 pub mod WritingLemmas
 pub mod TriedText
 pub mod BackLemmas
+pub mod OrderLemmas
+pub mod PairLemmas
