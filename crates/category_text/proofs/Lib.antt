@@ -8,3 +8,4 @@ pub mod TriedText
 pub mod BackLemmas
 pub mod OrderLemmas
 pub mod PairLemmas
+pub mod RiseLemmas
