@@ -9,3 +9,8 @@ pub mod BackLemmas
 pub mod OrderLemmas
 pub mod PairLemmas
 pub mod RiseLemmas
+pub mod IndexLemmas
+pub mod FreshLemmas
+pub mod InLemmas
+pub mod SameLemmas
+pub mod SpellLemmas
