@@ -14,3 +14,5 @@ pub mod FreshLemmas
 pub mod InLemmas
 pub mod SameLemmas
 pub mod SpellLemmas
+pub mod NumberLemmas
+pub mod PlainLemmas
