@@ -16,3 +16,8 @@ pub mod SameLemmas
 pub mod SpellLemmas
 pub mod NumberLemmas
 pub mod PlainLemmas
+pub mod SaidLemmas
+pub mod StayLemmas
+pub mod LineLemmas
+pub mod ValueLemmas
+pub mod AgainLemmas
