@@ -21,3 +21,5 @@ pub mod StayLemmas
 pub mod LineLemmas
 pub mod ValueLemmas
 pub mod AgainLemmas
+pub mod DraftLemmas
+pub mod TextLemmas
