@@ -23,3 +23,4 @@ pub mod ValueLemmas
 pub mod AgainLemmas
 pub mod DraftLemmas
 pub mod TextLemmas
+pub mod TriedAgain
