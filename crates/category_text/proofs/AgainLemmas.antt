@@ -1,5 +1,5 @@
 -- The canonical text of what can be said is read again, and to the same category.
-use Rattle.std.proofs.Common.{◌≡◌, ℕ, ◌<◌, ◌≤◌, List, [], ◌∷◌, ◌++◌, Bool, true, false, ◌&&◌, ◌||◌, ◌==◌, not, length, map, filter, refl, sym, ap, subst, ◌∙◌, arith, if◌then◌else◌, Ok}
+use Rattle.std.proofs.Common.{◌≡◌, ℕ, ◌-◌, ◌^◌, ◌<◌, ◌≤◌, List, [], ◌∷◌, ◌++◌, Bool, true, false, ◌&&◌, ◌||◌, ◌==◌, not, length, map, filter, refl, sym, ap, subst, ◌∙◌, arith, if◌then◌else◌, Ok}
 use Rattle.std.specs.Prelude.{IsTrue, IsOkAnd, nat_lt}
 use Rattle.std.proofs.lemmas.Bool.Decides.{nat_tests}
 use Rattle.line_text.specs.Spelling.{spelled, ArePlainLines}
@@ -31,6 +31,7 @@ use Rattle.category_text.proofs.SpellLemmas.{IsWord}
 use Rattle.category_text.proofs.NumberLemmas.{number_again, number_is_word}
 use Rattle.category_text.proofs.PlainLemmas.{plain_lines}
 use Rattle.category_text.proofs.SaidLemmas.{left_of, few, labels_named, symbol_named}
+use Rattle.category_text.proofs.ShortLemmas.{text_short}
 use Rattle.category_text.proofs.StayLemmas.{root_stays}
 use Rattle.category_text.proofs.ValueLemmas.{same_fuse, same_category}
 
@@ -99,3 +100,6 @@ module _ (x : NamedSymbols) (said : IsSaid x) where
 
   pub read_again : ReadAgain x
   read_again = subst (λ r. IsOkAnd r (SameSymbols x)) (sym read_back) (same_category x said)
+
+  pub short_text : length (canonical x) < 2 ^ 32 - 1
+  short_text = text_short x (few x said) (subst ArePlainLines (lines_are_over x) plain)

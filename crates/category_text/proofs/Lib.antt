@@ -24,3 +24,4 @@ pub mod AgainLemmas
 pub mod DraftLemmas
 pub mod TextLemmas
 pub mod TriedAgain
+pub mod ShortLemmas

@@ -13,11 +13,14 @@ use Rattle.category_text.specs.declared.kind.VertexKind.TheVariants.{OnR, OnW, O
 use Rattle.category_text.specs.Named.{NamedSymbols}
 use Rattle.category_text.specs.Reading.{Fault, category_of}
 use Rattle.category_text.specs.Canonical.{vertices, sixes, name_of, is_one, kind_word, f_words, f_value, vertex_value, canonical}
-use Rattle.category_text.specs.Again.{SameSymbols, AllReadAgain, OneText, SameText}
-use Rattle.category_text.proofs.AgainLemmas.{read_again}
+use Rattle.category_text.specs.Again.{SameSymbols, AllReadAgain, AllShort, OneText, SameText}
+use Rattle.category_text.proofs.AgainLemmas.{read_again, short_text}
 
 pub all_read_again : AllReadAgain
 all_read_again x said = read_again x said
+
+pub all_short : AllShort
+all_short x said = short_text x said
 
 -- what is the same as a third
 joined : (x y z : NamedSymbols) → SameSymbols x z → SameSymbols y z → SameSymbols x y

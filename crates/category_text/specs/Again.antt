@@ -1,5 +1,5 @@
 -- Canonical texts are read again, and no two categories have the same.
-use Rattle.std.specs.Prelude.{◌≡◌, ℕ, ◌<◌, ◌||◌, ◌==◌, length, true, List, IsOkAnd, IsTrue}
+use Rattle.std.specs.Prelude.{◌≡◌, ℕ, ◌-◌, ◌^◌, ◌<◌, ◌||◌, ◌==◌, length, true, List, IsOkAnd, IsTrue}
 use Rattle.poly_core.specs.Rho.{is_accepted}
 use Rattle.cyclo_core.specs.Ratio.{Ratio, ring_at, is_held}
 use Rattle.fusion_rules.specs.Fusion.{unit_fuses}
@@ -46,6 +46,10 @@ ReadAgain x = IsOkAnd (category_of (canonical x)) (SameSymbols x)
 -- what can be said is read again
 abbrev pub AllReadAgain : Type 0
 AllReadAgain = (x : NamedSymbols) → IsSaid x → ReadAgain x
+
+-- the canonical text of what can be said is short enough for the reader
+abbrev pub AllShort : Type 0
+AllShort = (x : NamedSymbols) → IsSaid x → length (canonical x) < 2 ^ 32 - 1
 
 -- categories with one text are the same: two that aren't have different texts
 abbrev pub OneText : Type 0

@@ -1,4 +1,4 @@
-ghost use Rattle.std.specs.Prelude.{◌≡◌, ◌<◌, ◌++◌, ◌∷◌, [], IsTrue, IfOk, OnOk, OnErr, length};
+ghost use Rattle.std.specs.Prelude.{◌≡◌, ◌<◌, ◌-◌, ◌^◌, ◌++◌, ◌∷◌, [], IsTrue, IfOk, OnOk, OnErr, length};
 ghost use Rattle.line_text.specs.Spelling.{spelled};
 ghost use Rattle.poly_core.specs.Rho.{is_accepted};
 ghost use Rattle.cyclo_core.specs.Ratio.{is_held, ring_at};
@@ -25,11 +25,13 @@ use symbol_table::{FIndex, VIndex};
 /// triples whose first two labels aren't the unit, and the values of F, R, w and v that aren't 1 at their admissible
 /// indices. Each of these five groups stands in the order of its label numbers.
 ///
-/// Asks for as many names as the rules have labels. Only want of memory refuses it, and `out` is then unchanged.
+/// Asks for as many names as the rules have labels. What is written is read again, to the same category, and is short
+/// enough for the reader. Only want of memory refuses it, and `out` is then unchanged.
 pub fn write_category(alloc: Global, named: &Named, out: &mut Vec<u8>) -> Result<(), AllocError>
     requires { length named.now.names ≡ named.now.draft.rules.count }
     ensures written { OnOk result (out.new.items ≡ out.old.items ++ canonical (seen named.now)) }
     ensures again { OnOk result (ReadAgain (seen named.now)) }
+    ensures short { OnOk result (length (canonical (seen named.now)) < 2 ^ 32 - 1) }
     ensures unchanged { OnErr result (out.new.items ≡ out.old.items) }
 {
     let text = whole_text(alloc, named)?;
