@@ -1,4 +1,4 @@
-use Rattle.std.proofs.Common.{◌≡◌, ◌≤◌, [], ap, sym, arith, rules, subst}
+use Rattle.std.proofs.Common.{◌≡◌, ◌≤◌, [], sym, arith, subst}
 use Rattle.std.specs.Prelude.{unsigned_abs, slice_index_or}
 use Rattle.poly_core.specs.Combination.{Sequence}
 use Rattle.poly_core.specs.Rho.{rho}
