@@ -1,13 +1,13 @@
 -- The canonical text of what can be said is read again, and to the same category.
-use Rattle.std.proofs.Common.{◌≡◌, ℕ, ◌-◌, ◌^◌, ◌<◌, ◌≤◌, List, [], ◌∷◌, ◌++◌, Bool, true, false, ◌&&◌, ◌||◌, ◌==◌, not, length, map, filter, refl, sym, ap, subst, ◌∙◌, arith, if◌then◌else◌, Ok}
-use Rattle.std.specs.Prelude.{IsTrue, IsOkAnd, nat_lt}
+use Rattle.std.proofs.Common.{◌≡◌, ℕ, ◌-◌, ◌^◌, ◌<◌, List, [], ◌∷◌, ◌++◌, Bool, true, length, filter, sym, ap, subst, ◌∙◌, arith, Ok}
+use Rattle.std.specs.Prelude.{IsOkAnd, nat_lt}
 use Rattle.std.proofs.lemmas.Bool.Decides.{nat_tests}
 use Rattle.line_text.specs.Spelling.{spelled, ArePlainLines}
 use Rattle.poly_core.specs.Rho.{is_accepted}
 use Rattle.poly_core.proofs.RhoLemmas.{accepted_small}
 use Rattle.cyclo_core.specs.Ratio.{Ratio}
 use Rattle.cyclo_text.specs.NumberWords.{spelled_number}
-use Rattle.symbol_table.specs.Index.{AreThreeLabels, AreSixLabels}
+use Rattle.symbol_table.specs.Index.{AreThreeLabels}
 use Rattle.symbol_table.specs.Draft.{f_index_admissible}
 use Rattle.symbol_table.specs.declared.index.FIndex.{FIndex}
 use Rattle.symbol_table.specs.declared.index.VIndex.{VIndex}
@@ -18,12 +18,12 @@ use Rattle.category_text.specs.declared.kind.VertexKind.TheVariants.{OnR, OnW, O
 use Rattle.category_text.specs.Named.{NamedSymbols}
 use Rattle.category_text.specs.Reading.{category_of}
 use Rattle.category_text.specs.Answers.{SymbolBelow}
-use Rattle.category_text.specs.Canonical.{vertices, sixes, is_one, has_fuse_line, has_f_line, has_vertex_line, canonical}
+use Rattle.category_text.specs.Canonical.{vertices, sixes, has_fuse_line, has_f_line, has_vertex_line, canonical}
 use Rattle.category_text.specs.Spelled.{head_alone, fused_all, set_all, lines_over, FreshTriples, FreshSymbols}
 use Rattle.category_text.specs.Again.{IsNumberOf, IsSaid, SameSymbols, ReadAgain}
 use Rattle.category_text.proofs.BackLemmas.{names_stay, text_again}
 use Rattle.category_text.proofs.OrderLemmas.{fresh_fusion, fuse_line_off}
-use Rattle.category_text.proofs.PairLemmas.{of_kind, f_symbols, vertex_symbols, symbols, value_of, has_line, valued, pairs, triples, lines_are_over, symbols_rise}
+use Rattle.category_text.proofs.PairLemmas.{of_kind, f_symbols, vertex_symbols, symbols, value_of, valued, pairs, triples, lines_are_over, symbols_rise}
 use Rattle.category_text.proofs.IndexLemmas.{admitted}
 use Rattle.category_text.proofs.FreshLemmas.{Each, IsReady, fresh_symbols, unset_fused}
 use Rattle.category_text.proofs.SameLemmas.{each_filter, each_map, each_append}

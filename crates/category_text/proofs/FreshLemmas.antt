@@ -37,11 +37,14 @@ pub record IsReady (x : NamedSymbols) (n root : ℕ) (fuse : ℕ → ℕ → ℕ
 
 pub fresh_symbols : (x said : NamedSymbols) (k m : ℕ) (ss : List Symbol) → Each (IsReady x (length said.names) said.root said.given.fuse) ss → Rises code k m ss → Unset k said.given → FreshSymbols said (map (valued x) ss)
 fresh_symbols x said k m [] ready s un = tt
-fresh_symbols x said k m (s ∷ ss) (ready, more) (low, rest) un =
-    (ready.below, can_set said.given s ready.allowed (un s low), ready.read,
-        fresh_symbols x (set_with said s (value_of x s)) (code s + 1) m ss
-        (subst (λ fuse. Each (IsReady x (length said.names) said.root fuse) ss) (sym (fuse_with said.given s (value_of x s))) more) rest
-        (unset_with said.given s (value_of x s) k un low))
+fresh_symbols x said k m (s ∷ ss) (ready, more) (low, rest) un = (
+  ready.below,
+  can_set said.given s ready.allowed (un s low),
+  ready.read,
+  fresh_symbols x (set_with said s (value_of x s)) (code s + 1) m ss
+      (subst (λ fuse. Each (IsReady x (length said.names) said.root fuse) ss) (sym (fuse_with said.given s (value_of x s))) more) rest
+      (unset_with said.given s (value_of x s) k un low),
+)
 
 -- triples set nothing
 set_of_fused : (g : Given Ratio) (a b c : ℕ) (s : Symbol) → set_of (with_fusion g a b c) s ≡ set_of g s

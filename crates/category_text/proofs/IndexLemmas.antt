@@ -1,5 +1,5 @@
 -- Symbols as indices of one table: which are admissible, which are set, and what one value more changes.
-use Rattle.std.proofs.Common.{◌≡◌, ℕ, ◌+◌, ◌≤◌, List, [], ◌∷◌, Bool, true, false, ◌&&◌, ◌==◌, refl, ap, ◌∙◌, arith, if◌then◌else◌, Option, Some, None}
+use Rattle.std.proofs.Common.{◌≡◌, ℕ, Bool, true, false, refl, ap, arith, if◌then◌else◌, Option, Some, None}
 use Rattle.std.proofs.lemmas.Bool.Decides.{nat_tests}
 use Rattle.cyclo_core.specs.Ratio.{Ratio}
 use Rattle.symbol_table.specs.Symbols.{Given, f_admissible}

@@ -1,5 +1,5 @@
 -- The symbols in the list are those that have a line.
-use Rattle.std.proofs.Common.{◌≡◌, ℕ, List, [], ◌∷◌, ◌++◌, Bool, true, false, ◌&&◌, not, length, map, filter, refl, ap}
+use Rattle.std.proofs.Common.{◌≡◌, List, [], ◌∷◌, ◌++◌, Bool, true, false, filter, refl, ap}
 use Rattle.symbol_table.specs.declared.index.FIndex.{FIndex}
 use Rattle.symbol_table.specs.declared.index.VIndex.{VIndex}
 use Rattle.category_text.specs.declared.kind.Symbol.{Symbol}

@@ -1,12 +1,11 @@
 -- A number of a root's ring that the type of numbers can hold is read again, and its spelling is a word.
-use Rattle.std.proofs.Common.{◌≡◌, ℕ, zero, suc, ◌+◌, ◌-◌, ◌/◌, ◌^◌, ◌<◌, ◌≤◌, List, [], ◌∷◌, Bool, true, false, ◌&&◌, length, refl, sym, ap, subst, ◌∙◌, arith, inl, inr, if◌then◌else◌, Ok}
-use Rattle.std.specs.Prelude.{ℤ, pos, unsigned_abs, IsTrue, max}
+use Rattle.std.proofs.Common.{◌≡◌, ℕ, ◌/◌, ◌<◌, ◌≤◌, List, [], ◌∷◌, Bool, true, false, length, sym, ap, subst, arith, inl, inr, if◌then◌else◌, Ok}
+use Rattle.std.specs.Prelude.{ℤ, pos, unsigned_abs, IsTrue}
 use Rattle.std.specs.List.{list_all}
 use Rattle.std.proofs.lemmas.Bool.{cases_lt}
 use native.Mathlib.Nat.{mul-div_cancel'}
 use Rattle.ring_laws.specs.Whole.{int_equal}
 use Rattle.poly_core.specs.Rho.{is_accepted, degree}
-use Rattle.poly_core.specs.Table.{at}
 use Rattle.poly_core.proofs.RhoLemmas.{degree_positive, degree_small}
 use Rattle.cyclo_core.specs.Content.{content, content-divides-first}
 use Rattle.cyclo_core.specs.CycloLaws.{same_ratio_is}
@@ -62,10 +61,10 @@ module _ (root : ℕ) (x : Ratio) (is : IsNumberOf root x) where
         some = trimmed_some x.numerators (omega (arith, full));
         few = omega (arith, most_parts, degree_small root);
         small = λ j. subst (λ z. unsigned_abs z ≤ most) (sym (at-trimmed x.numerators j))
-        (elim (cases_lt j 16) [
-          | inl lt ↦ over j lt
-          | inr le ↦ subst (λ z. unsigned_abs z ≤ most) (sym (past j (omega (arith, degree_small root)))) (omega arith)
-        ]);
+            (elim (cases_lt j 16) [
+              | inl lt ↦ over j lt
+              | inr le ↦ subst (λ z. unsigned_abs z ≤ most) (sym (past j (omega (arith, degree_small root)))) (omega arith)
+            ]);
         positive = member_positive root x is.0;
         bounded = bounded;
       }

@@ -1,8 +1,7 @@
 -- The canonical lines are the lines of triples and values over a head.
-use Rattle.std.proofs.Common.{◌≡◌, ℕ, ◌+◌, ◌*◌, ◌≤◌, List, [], ◌∷◌, ◌++◌, Bool, not, ◌&&◌, map, filter, refl, ap, ◌∙◌, arith}
+use Rattle.std.proofs.Common.{◌≡◌, ℕ, ◌+◌, ◌*◌, ◌≤◌, List, [], ◌∷◌, ◌++◌, Bool, map, filter, refl, ap, arith}
 use Rattle.std.proofs.lemmas.List.{map-append}
 use Rattle.cyclo_core.specs.Ratio.{Ratio}
-use Rattle.symbol_table.specs.Draft.{f_index_admissible}
 use Rattle.symbol_table.specs.declared.index.FIndex.{FIndex}
 use Rattle.symbol_table.specs.declared.index.VIndex.{VIndex}
 use Rattle.category_text.specs.declared.kind.Symbol.{Symbol}
@@ -10,7 +9,7 @@ use Rattle.category_text.specs.declared.kind.Symbol.TheVariants.{OfF, OfR, OfW, 
 use Rattle.category_text.specs.declared.kind.VertexKind.{VertexKind}
 use Rattle.category_text.specs.declared.kind.VertexKind.TheVariants.{OnR, OnW, OnV}
 use Rattle.category_text.specs.Named.{NamedSymbols}
-use Rattle.category_text.specs.Canonical.{vertices, sixes, f_value, vertex_value, f_line, vertex_line, f_lines, vertex_lines, has_fuse_line, has_f_line, has_vertex_line, canonical_lines}
+use Rattle.category_text.specs.Canonical.{vertices, sixes, f_value, vertex_value, f_line, vertex_line, has_fuse_line, has_f_line, has_vertex_line, canonical_lines}
 use Rattle.category_text.specs.Spelled.{symbol_words, words_at, lines_over}
 use Rattle.category_text.proofs.RiseLemmas.{Rises, v_code, f_code, rises_within, rises_append, rises_filter, rises_map, vertices_rise, sixes_rise}
 
@@ -71,10 +70,16 @@ vertex_words_are x OnV (t ∷ ts) = ap (λ ls. vertex_line x OnV t ∷ ls) (vert
 
 pub lines_are_over : (x : NamedSymbols) → lines_over x (triples x) (pairs x) ≡ canonical_lines x
 lines_are_over x =
-    rw (words_are x (symbols x), map-append (line_of_symbol x) (f_symbols x) (vertex_symbols x OnR ++ (vertex_symbols x OnW ++ vertex_symbols x OnV)),
-        map-append (line_of_symbol x) (vertex_symbols x OnR) (vertex_symbols x OnW ++ vertex_symbols x OnV), map-append (line_of_symbol x) (vertex_symbols x OnW) (vertex_symbols x OnV),
-        f_words_are x (filter (has_f_line x) (sixes x.given.count)), vertex_words_are x OnR (filter (has_vertex_line x OnR) (vertices x.given.count)),
-        vertex_words_are x OnW (filter (has_vertex_line x OnW) (vertices x.given.count)), vertex_words_are x OnV (filter (has_vertex_line x OnV) (vertices x.given.count))) refl
+    rw (
+      words_are x (symbols x),
+      map-append (line_of_symbol x) (f_symbols x) (vertex_symbols x OnR ++ (vertex_symbols x OnW ++ vertex_symbols x OnV)),
+      map-append (line_of_symbol x) (vertex_symbols x OnR) (vertex_symbols x OnW ++ vertex_symbols x OnV),
+      map-append (line_of_symbol x) (vertex_symbols x OnW) (vertex_symbols x OnV),
+      f_words_are x (filter (has_f_line x) (sixes x.given.count)),
+      vertex_words_are x OnR (filter (has_vertex_line x OnR) (vertices x.given.count)),
+      vertex_words_are x OnW (filter (has_vertex_line x OnW) (vertices x.given.count)),
+      vertex_words_are x OnV (filter (has_vertex_line x OnV) (vertices x.given.count)),
+    ) refl
 
 -- The order: F, R, w and v, each with its labels as digits.
 abbrev pub kind_code : VertexKind → ℕ
@@ -102,8 +107,8 @@ vertex_symbols_rise x kind few =
 pub symbols_rise : (x : NamedSymbols) → x.given.count ≤ 16 → Rises code 0 67108864 (symbols x)
 symbols_rise x few =
     let fs = rises_within code 0 (0 + 0) (0 + x.given.count * 1048576) 16777216 (f_symbols x)
-        (rises_map f_code code OfF 0 (λ at. omega arith) 0 (x.given.count * 1048576) (filter (has_f_line x) (sixes x.given.count))
-        (rises_filter f_code (has_f_line x) 0 (x.given.count * 1048576) (sixes x.given.count) (sixes_rise x.given.count few))) (omega arith) (omega arith) in
+    (rises_map f_code code OfF 0 (λ at. omega arith) 0 (x.given.count * 1048576) (filter (has_f_line x) (sixes x.given.count))
+    (rises_filter f_code (has_f_line x) 0 (x.given.count * 1048576) (sixes x.given.count) (sixes_rise x.given.count few))) (omega arith) (omega arith) in
     rises_append code 0 16777216 67108864 (f_symbols x) (vertex_symbols x OnR ++ (vertex_symbols x OnW ++ vertex_symbols x OnV)) fs
     (rises_append code 16777216 33554432 67108864 (vertex_symbols x OnR) (vertex_symbols x OnW ++ vertex_symbols x OnV) (vertex_symbols_rise x OnR few)
     (rises_append code 33554432 50331648 67108864 (vertex_symbols x OnW) (vertex_symbols x OnV) (vertex_symbols_rise x OnW few) (vertex_symbols_rise x OnV few)))

@@ -1,5 +1,5 @@
 -- The lines of names, triples and numbers are plain.
-use Rattle.std.proofs.Common.{◌≡◌, ℕ, zero, suc, ◌+◌, ◌*◌, ◌<◌, ◌≤◌, List, [], ◌∷◌, ◌++◌, Bool, true, false, ◌&&◌, length, map, refl, arith, if◌then◌else◌, codes}
+use Rattle.std.proofs.Common.{◌≡◌, ℕ, zero, suc, ◌+◌, ◌*◌, ◌<◌, ◌≤◌, List, [], ◌∷◌, ◌++◌, true, length, map, refl, arith, codes}
 use Rattle.std.specs.Fmt.{decimal}
 use Rattle.std.proofs.lemmas.Bool.Decides.{nat_tests}
 use Rattle.std.proofs.lemmas.List.{length-append}
@@ -7,7 +7,7 @@ use Rattle.cyclo_core.specs.Ratio.{Ratio}
 use Rattle.cyclo_text.specs.NumberWords.{spelled_number}
 use Rattle.fusion_rules.specs.Names.{is_name, all_names, all_name_bytes, AreNames}
 use Rattle.fusion_rules.proofs.NameLemmas.{spelled}
-use Rattle.line_text.specs.Spelling.{spaced, plain_bytes, is_plain_word, all_plain, IsPlainLine, ArePlainLines}
+use Rattle.line_text.specs.Spelling.{spaced, plain_bytes, all_plain, IsPlainLine, ArePlainLines}
 use Rattle.symbol_table.specs.Index.{AreThreeLabels}
 use Rattle.symbol_table.specs.declared.index.VIndex.{VIndex}
 use Rattle.category_text.specs.declared.kind.Symbol.{Symbol}
@@ -71,8 +71,8 @@ module _ (names : List (List ℕ)) (all : all_names names ≡ true) where
   symbol_plain (OfF at) value (a, b, c, d, e, f) w =
       let last = vertex_line at.d at.e at.f (spelled_number value) (d, e, f) w in
       let first = word_before (name_of names at.a) (name_of names at.b) (name_of names at.c ∷ name_of names at.d ∷ name_of names at.e ∷ name_of names at.f ∷ spelled_number value ∷ []) 8 740 (name_at names at.a all a)
-          (word_before (name_of names at.b) (name_of names at.c) (name_of names at.d ∷ name_of names at.e ∷ name_of names at.f ∷ spelled_number value ∷ []) 8 731 (name_at names at.b all b)
-          (word_before (name_of names at.c) (name_of names at.d) (name_of names at.e ∷ name_of names at.f ∷ spelled_number value ∷ []) 8 722 (name_at names at.c all c) last)) in
+      (word_before (name_of names at.b) (name_of names at.c) (name_of names at.d ∷ name_of names at.e ∷ name_of names at.f ∷ spelled_number value ∷ []) 8 731 (name_at names at.b all b)
+      (word_before (name_of names at.c) (name_of names at.d) (name_of names at.e ∷ name_of names at.f ∷ spelled_number value ∷ []) 8 722 (name_at names at.c all c) last)) in
       let whole = word_before (codes "f") (name_of names at.a) (name_of names at.b ∷ name_of names at.c ∷ name_of names at.d ∷ name_of names at.e ∷ name_of names at.f ∷ spelled_number value ∷ []) 1 749 (record { plain = refl; short = omega arith }) first in
       record { plain = whole.plain; counts = refl; short = omega (arith, whole.short) }
   symbol_plain (OfR at) value labels w =
@@ -111,6 +111,13 @@ labels_plain (n ∷ ns) are some =
 pub plain_lines : (root : ℕ) (names : List (List ℕ)) (ts : List VIndex) (ss : List (Symbol × Ratio)) → AreNames names → 0 < length names → 0 < root → root ≤ 60
     → Each (λ (t : VIndex). AreThreeLabels (length names) t.a t.b t.c) ts → Each (λ (s : Symbol × Ratio). SymbolBelow (length names) s.0 × IsWord (spelled_number s.1) 695) ss
     → ArePlainLines (lines_over (head_alone root names) ts ss)
-plain_lines root names ts ss are some low high labels each =
-    (record { plain = refl; counts = refl; short = omega arith }, (root_plain root low high, (labels_plain names are some,
-        plain_append (map (fuse_line (head_alone root names)) ts) (map (words_at names) ss) (fuses_plain names are.spelled (head_alone root names) ts refl labels) (symbols_plain names are.spelled ss each))))
+plain_lines root names ts ss are some low high labels each = (
+  record { plain = refl; counts = refl; short = omega arith },
+  (
+    root_plain root low high,
+    (
+      labels_plain names are some,
+      plain_append (map (fuse_line (head_alone root names)) ts) (map (words_at names) ss) (fuses_plain names are.spelled (head_alone root names) ts refl labels) (symbols_plain names are.spelled ss each),
+    ),
+  ),
+)

@@ -37,9 +37,10 @@ rises_filter code p k m (x ∷ xs) s = go (p x) (rises_filter code p (code x + 1
 pub rises_map : {A B : Type 0} (of : A → ℕ) (code : B → ℕ) (g : A → B) (base : ℕ) → ((x : A) → code (g x) ≡ base + of x) → (k m : ℕ) (xs : List A) → Rises of k m xs → Rises code (base + k) (base + m) (map g xs)
 rises_map of code g base is k m [] s = omega arith
 rises_map of code g base is k m (x ∷ xs) s =
-    let e = is x in
-    (let low = s.0 in omega arith,
-        rises_from code (code (g x) + 1) (base + (of x + 1)) (base + m) (map g xs) (rises_map of code g base is (of x + 1) m xs s.1) (omega arith))
+    let e = is x in (
+      let low = s.0 in omega arith,
+      rises_from code (code (g x) + 1) (base + (of x + 1)) (base + m) (map g xs) (rises_map of code g base is (of x + 1) m xs s.1) (omega arith),
+    )
 
 -- lists one behind the other, each between the starts of its code and of the next
 pub rises_flat : {A B : Type 0} (of : A → ℕ) (code : B → ℕ) (start : ℕ → ℕ) → ((i j : ℕ) → i ≤ j → start i ≤ start j) → (f : A → List B) → ((x : A) → Rises code (start (of x)) (start (of x + 1)) (f x))

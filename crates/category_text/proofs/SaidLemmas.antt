@@ -1,5 +1,5 @@
 -- What can be said has labels below the number of its names.
-use Rattle.std.proofs.Common.{◌≡◌, ℕ, ◌<◌, ◌≤◌, List, Bool, true, false, ◌&&◌, length, refl, subst, arith}
+use Rattle.std.proofs.Common.{◌≡◌, ℕ, ◌≤◌, Bool, true, false, ◌&&◌, length, refl, subst, arith}
 use Rattle.symbol_table.specs.Index.{AreThreeLabels, AreSixLabels}
 use Rattle.symbol_table.specs.Symbols.{f_admissible}
 use Rattle.category_text.specs.declared.kind.Symbol.{Symbol}

@@ -1,15 +1,13 @@
 -- The triples and values of a canonical text are those of the category.
-use Rattle.std.proofs.Common.{◌≡◌, ℕ, ◌≤◌, List, [], ◌∷◌, ◌++◌, Bool, true, false, ◌&&◌, ◌||◌, ◌==◌, not, length, map, filter, refl, sym, ap, subst, ◌∙◌, arith, inl, inr, if◌then◌else◌, Some, None}
-use Rattle.std.specs.Prelude.{IsTrue, unwrap_or}
+use Rattle.std.proofs.Common.{◌≡◌, ℕ, List, [], ◌∷◌, ◌++◌, Bool, true, false, ◌||◌, map, filter, refl, ap, subst, ◌∙◌, arith, inl, inr, if◌then◌else◌, Some}
 use Rattle.std.proofs.lemmas.Bool.Decides.{nat_tests}
 use Rattle.cyclo_core.specs.Ratio.{Ratio, ring_at}
 use Rattle.cyclo_core.specs.CycloLaws.{same_ratio_is}
-use Rattle.fusion_rules.specs.Fusion.{is_triple, unit_fuses}
-use Rattle.symbol_table.specs.Index.{v_index}
+use Rattle.fusion_rules.specs.Fusion.{is_triple}
 use Rattle.symbol_table.specs.declared.index.VIndex.{VIndex}
 use Rattle.category_text.specs.declared.kind.Symbol.{Symbol}
 use Rattle.category_text.specs.Named.{NamedSymbols}
-use Rattle.category_text.specs.Canonical.{vertices, has_fuse_line, is_one}
+use Rattle.category_text.specs.Canonical.{is_one}
 use Rattle.category_text.specs.Spelled.{fused_with, set_with, fused_all, set_all}
 use Rattle.category_text.proofs.FreshLemmas.{Each}
 use Rattle.category_text.proofs.InLemmas.{In}

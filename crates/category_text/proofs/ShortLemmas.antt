@@ -1,5 +1,5 @@
 -- A canonical text is shorter than the shortest that can't be read.
-use Rattle.std.proofs.Common.{◌≡◌, ℕ, zero, suc, ◌+◌, ◌-◌, ◌*◌, ◌^◌, ◌<◌, ◌≤◌, List, [], ◌∷◌, ◌++◌, Bool, true, false, length, map, filter, refl, sym, ap, subst, ◌∙◌, arith, if◌then◌else◌}
+use Rattle.std.proofs.Common.{◌≡◌, ℕ, zero, suc, ◌+◌, ◌-◌, ◌*◌, ◌^◌, ◌<◌, ◌≤◌, List, [], ◌∷◌, ◌++◌, Bool, true, false, length, map, filter, refl, sym, ap, subst, arith, if◌then◌else◌}
 use Rattle.std.specs.List.{All, flat_map}
 use Rattle.std.proofs.lemmas.List.{length-append, length-map}
 use Rattle.std.proofs.lemmas.List.Concat.{length-flat_map}
@@ -7,10 +7,7 @@ use Rattle.std.proofs.lemmas.List.Elements.{All-nil, All-cons}
 use Rattle.std.proofs.lemmas.List.Sums.{sum_by-le}
 use Rattle.line_text.specs.Spelling.{spaced, spelled, ArePlainLines}
 use Rattle.symbol_table.specs.Index.{v_index}
-use Rattle.symbol_table.specs.declared.index.FIndex.{FIndex}
 use Rattle.symbol_table.specs.declared.index.VIndex.{VIndex}
-use Rattle.category_text.specs.declared.kind.Symbol.{Symbol}
-use Rattle.category_text.specs.declared.kind.Symbol.TheVariants.{OfF}
 use Rattle.category_text.specs.declared.kind.VertexKind.{VertexKind}
 use Rattle.category_text.specs.declared.kind.VertexKind.TheVariants.{OnR, OnW, OnV}
 use Rattle.category_text.specs.Named.{NamedSymbols}
@@ -73,12 +70,19 @@ module _ (x : NamedSymbols) (few : x.given.count ≤ 12) where
 
   lines_short : length (canonical_lines x) ≤ 2992899
   lines_short =
-      omega (arith, fuses_short, fs_short, kind_short OnR, kind_short OnW, kind_short OnV,
-          length-append (head_lines x) (fuse_lines x ++ (f_lines x ++ (vertex_lines x OnR ++ (vertex_lines x OnW ++ vertex_lines x OnV)))),
-          length-append (fuse_lines x) (f_lines x ++ (vertex_lines x OnR ++ (vertex_lines x OnW ++ vertex_lines x OnV))),
-          length-append (f_lines x) (vertex_lines x OnR ++ (vertex_lines x OnW ++ vertex_lines x OnV)),
-          length-append (vertex_lines x OnR) (vertex_lines x OnW ++ vertex_lines x OnV),
-          length-append (vertex_lines x OnW) (vertex_lines x OnV))
+      omega (
+        arith,
+        fuses_short,
+        fs_short,
+        kind_short OnR,
+        kind_short OnW,
+        kind_short OnV,
+        length-append (head_lines x) (fuse_lines x ++ (f_lines x ++ (vertex_lines x OnR ++ (vertex_lines x OnW ++ vertex_lines x OnV)))),
+        length-append (fuse_lines x) (f_lines x ++ (vertex_lines x OnR ++ (vertex_lines x OnW ++ vertex_lines x OnV))),
+        length-append (f_lines x) (vertex_lines x OnR ++ (vertex_lines x OnW ++ vertex_lines x OnV)),
+        length-append (vertex_lines x OnR) (vertex_lines x OnW ++ vertex_lines x OnV),
+        length-append (vertex_lines x OnW) (vertex_lines x OnV),
+      )
 
   pub text_short : ArePlainLines (canonical_lines x) → length (canonical x) < 2 ^ 32 - 1
   unfolding canonical

@@ -1,17 +1,16 @@
 -- What a number is spelled with: printable bytes, at most 695.
-use Rattle.std.proofs.Common.{◌≡◌, ◌≢◌, ℕ, zero, suc, ◌+◌, ◌*◌, ◌%◌, ◌^◌, ◌<◌, ◌≤◌, List, [], ◌∷◌, ◌++◌, Bool, true, false, ◌&&◌, length, map, refl, sym, ap, subst, ◌∙◌, arith, inl, inr, if◌then◌else◌}
-use Rattle.std.specs.Prelude.{ℤ, pos, negsuc, unsigned_abs, IsTrue}
+use Rattle.std.proofs.Common.{◌≡◌, ℕ, zero, suc, ◌+◌, ◌*◌, ◌%◌, ◌^◌, ◌<◌, ◌≤◌, List, [], ◌∷◌, ◌++◌, true, length, map, refl, sym, subst, arith, inl, inr}
+use Rattle.std.specs.Prelude.{ℤ, pos, negsuc, unsigned_abs}
 use Rattle.std.specs.Fmt.{decimal, signed_decimal}
 use Rattle.std.specs.List.{join_with_byte}
-use Rattle.std.specs.Str.{all_ascii_digits}
 use Rattle.std.proofs.lemmas.Bool.{cases_eq}
 use Rattle.std.proofs.lemmas.Bool.Decides.{nat_tests}
 use Rattle.std.proofs.lemmas.List.{length-append}
 use Rattle.std.proofs.lemmas.Fmt.{length-decimal-le_wide, decimal_by_steps_wide, decimal_digit}
 use Rattle.poly_core.specs.Table.{at}
 use Rattle.cyclo_core.specs.Ratio.{Ratio, most}
-use Rattle.cyclo_text.specs.NumberWords.{comma, slash, is_positive, trimmed, spelled_number}
-use Rattle.cyclo_text.proofs.TrimLemmas.{at-trimmed, length-trimmed, spelled-whole, spelled-over}
+use Rattle.cyclo_text.specs.NumberWords.{comma, slash, trimmed, spelled_number}
+use Rattle.cyclo_text.proofs.TrimLemmas.{spelled-whole, spelled-over}
 use Rattle.line_text.specs.Spelling.{plain_bytes, is_plain_word}
 
 -- a word of at most so many bytes that can stand in a line
@@ -66,9 +65,10 @@ parts_word : (z : ℤ) (zs : List ℤ) → AreSmall (z ∷ zs) → (is_plain_wor
 parts_word z [] small = let w = signed_word z (small 0) in (w.plain, omega (arith, w.short))
 parts_word z (y ∷ ys) small =
     let w = signed_word z (small 0) in
-    let rest = parts_word y ys (λ j. small (suc j)) in
-    (word_append (signed_decimal z) (comma ∷ parts_text (y ∷ ys)) w.plain (plain_cons comma (parts_text (y ∷ ys)) (omega arith) (omega arith) (word_bytes (parts_text (y ∷ ys)) rest.0)),
-        (let more = rest.1 in omega (arith, w.short, more, length-append (signed_decimal z) (comma ∷ parts_text (y ∷ ys)))))
+    let rest = parts_word y ys (λ j. small (suc j)) in (
+      word_append (signed_decimal z) (comma ∷ parts_text (y ∷ ys)) w.plain (plain_cons comma (parts_text (y ∷ ys)) (omega arith) (omega arith) (word_bytes (parts_text (y ∷ ys)) rest.0)),
+      (let more = rest.1 in omega (arith, w.short, more, length-append (signed_decimal z) (comma ∷ parts_text (y ∷ ys)))),
+    )
 
 -- A number of at least one part and at most sixteen, of magnitudes up to the greatest, over a denominator that isn't 0.
 pub record IsSpellable (x : Ratio) : Type 0 where

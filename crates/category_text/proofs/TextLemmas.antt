@@ -1,5 +1,5 @@
 -- Categories with one text are the same, and the same category has one text.
-use Rattle.std.proofs.Common.{◌≡◌, ℕ, List, [], ◌∷◌, ◌++◌, Bool, ◌&&◌, ◌==◌, not, map, filter, refl, sym, ap, subst, ◌∙◌, Result, Ok, Err, codes}
+use Rattle.std.proofs.Common.{◌≡◌, ℕ, List, [], ◌∷◌, ◌++◌, Bool, ◌&&◌, ◌==◌, not, map, filter, refl, sym, subst, ◌∙◌, Result, Ok, Err, codes}
 use Rattle.std.specs.Prelude.{IsOkAnd}
 use Rattle.std.specs.Fmt.{decimal}
 use Rattle.line_text.specs.Spelling.{spelled}

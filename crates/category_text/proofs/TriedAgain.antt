@@ -14,16 +14,14 @@ use Rattle.cyclo_core.specs.RingAt.{ring_at_laws}
 use Rattle.fusion_rules.specs.Fusion.{unit_fuses}
 use Rattle.fusion_rules.specs.Names.{AreNames}
 use Rattle.symbol_table.specs.Symbols.{Given}
-use Rattle.symbol_table.specs.Draft.{f_index_admissible}
 use Rattle.symbol_table.specs.Index.{AreThreeLabels, f_index, v_index}
-use Rattle.symbol_table.specs.declared.index.FIndex.{FIndex}
 use Rattle.symbol_table.specs.declared.index.VIndex.{VIndex}
 use Rattle.category_text.specs.declared.kind.Symbol.{Symbol}
 use Rattle.category_text.specs.declared.kind.Symbol.TheVariants.{OfF, OfR, OfW, OfV}
 use Rattle.category_text.specs.declared.kind.VertexKind.{VertexKind}
 use Rattle.category_text.specs.declared.kind.VertexKind.TheVariants.{OnR, OnW, OnV}
 use Rattle.category_text.specs.Named.{NamedSymbols, with_symbol, only_units}
-use Rattle.category_text.specs.Canonical.{f_value, vertex_value}
+use Rattle.category_text.specs.Canonical.{vertex_value}
 use Rattle.category_text.specs.Spelled.{fused_all, set_with, set_all, head_alone}
 use Rattle.category_text.specs.Again.{IsNumberOf, IsSaid}
 use Rattle.category_text.proofs.FreshLemmas.{Each}
@@ -122,10 +120,22 @@ fibonacci_values =
 
 each_number : Each (λ (s : Symbol × Ratio). IsNumberOf 5 s.1) fibonacci_values
 unfolding fibonacci_values fifth is_held
-each_number =
-    ((fifth_member (negsuc 0) (pos 0) (negsuc 0) (negsuc 0), refl), ((fifth_member (negsuc 0) (pos 0) (negsuc 0) (negsuc 0), refl), ((fifth_member (pos 1) (pos 0) (pos 1) (pos 1), refl),
-        ((fifth_member (pos 0) (pos 0) (pos 0) (pos 1), refl), ((fifth_member (pos 1) (pos 1) (pos 1) (pos 1), refl),
-        ((fifth_member (negsuc 0) (pos 0) (negsuc 0) (negsuc 0), refl), ((fifth_member (pos 0) (pos 0) (negsuc 0) (negsuc 0), refl), tt)))))))
+each_number = (
+  (fifth_member (negsuc 0) (pos 0) (negsuc 0) (negsuc 0), refl),
+  (
+    (fifth_member (negsuc 0) (pos 0) (negsuc 0) (negsuc 0), refl),
+    (
+      (fifth_member (pos 1) (pos 0) (pos 1) (pos 1), refl),
+      (
+        (fifth_member (pos 0) (pos 0) (pos 0) (pos 1), refl),
+        (
+          (fifth_member (pos 1) (pos 1) (pos 1) (pos 1), refl),
+          ((fifth_member (negsuc 0) (pos 0) (negsuc 0) (negsuc 0), refl), ((fifth_member (pos 0) (pos 0) (negsuc 0) (negsuc 0), refl), tt)),
+        ),
+      ),
+    ),
+  ),
+)
 
 numbers_none : AreSetNumbers 5 fibonacci_rules.given
 unfolding fibonacci_rules

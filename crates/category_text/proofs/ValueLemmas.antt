@@ -1,31 +1,29 @@
 -- What is read from a canonical text is the same category.
-use Rattle.std.proofs.Common.{◌≡◌, ℕ, List, [], ◌∷◌, ◌++◌, Bool, true, false, ◌&&◌, ◌||◌, ◌==◌, not, length, map, filter, refl, sym, ap, subst, ◌∙◌, arith, if◌then◌else◌, Some, None, Option}
-use Rattle.std.specs.Prelude.{IsTrue, unwrap_or}
+use Rattle.std.proofs.Common.{◌≡◌, ℕ, Bool, true, false, ◌&&◌, ◌||◌, ◌==◌, not, refl, sym, ap, ◌∙◌, arith, if◌then◌else◌, None}
+use Rattle.std.specs.Prelude.{unwrap_or}
 use Rattle.std.proofs.lemmas.Bool.Decides.{nat_tests}
-use Rattle.cyclo_core.specs.Ratio.{Ratio, ring_at}
+use Rattle.cyclo_core.specs.Ratio.{ring_at}
 use Rattle.fusion_rules.specs.Fusion.{is_triple, unit_fuses}
-use Rattle.symbol_table.specs.Symbols.{f_admissible}
-use Rattle.symbol_table.specs.Index.{AreThreeLabels, AreSixLabels, v_index}
-use Rattle.symbol_table.specs.declared.index.FIndex.{FIndex}
+use Rattle.symbol_table.specs.Index.{v_index}
 use Rattle.symbol_table.specs.declared.index.VIndex.{VIndex}
 use Rattle.category_text.specs.declared.kind.Symbol.{Symbol}
 use Rattle.category_text.specs.declared.kind.Symbol.TheVariants.{OfF, OfR, OfW, OfV}
 use Rattle.category_text.specs.declared.kind.VertexKind.{VertexKind}
 use Rattle.category_text.specs.declared.kind.VertexKind.TheVariants.{OnR, OnW, OnV}
 use Rattle.category_text.specs.Named.{NamedSymbols}
-use Rattle.category_text.specs.Canonical.{vertices, sixes, is_one, has_fuse_line, has_f_line, has_vertex_line, vertex_value}
-use Rattle.category_text.specs.Spelled.{head_alone, fused_with, set_with, fused_all, set_all}
+use Rattle.category_text.specs.Canonical.{vertices, is_one, has_fuse_line, vertex_value}
+use Rattle.category_text.specs.Spelled.{head_alone, fused_all, set_all}
 use Rattle.category_text.specs.Again.{IsSaid, SameSymbols}
 use Rattle.category_text.proofs.BackLemmas.{names_stay}
 use Rattle.category_text.proofs.OrderLemmas.{off_unit, fuse_line_off}
-use Rattle.category_text.proofs.PairLemmas.{of_kind, f_symbols, vertex_symbols, symbols, value_of, has_line, valued, pairs, triples}
-use Rattle.category_text.proofs.IndexLemmas.{set_of, admitted, same_symbol, same_symbol_is, fuse_with, count_with}
+use Rattle.category_text.proofs.PairLemmas.{symbols, value_of, has_line, pairs, triples}
+use Rattle.category_text.proofs.IndexLemmas.{set_of, admitted}
 use Rattle.category_text.proofs.FreshLemmas.{Each, unset_fused}
 use Rattle.category_text.proofs.InLemmas.{in_filter, in_vertices}
 use Rattle.category_text.proofs.LineLemmas.{others, in_symbols}
 use Rattle.category_text.proofs.SaidLemmas.{symbol_labels}
 use Rattle.category_text.proofs.StayLemmas.{root_stays, count_stays, set_names, set_root, set_count, set_fuse}
-use Rattle.category_text.proofs.SameLemmas.{fused_in, fused_out, each_filter, each_map, each_append, set_in, set_out, one_is}
+use Rattle.category_text.proofs.SameLemmas.{fused_in, fused_out, each_filter, set_in, set_out, one_is}
 
 triple_is : (t : VIndex) (a b c : ℕ) → is_triple t.a t.b t.c a b c ≡ true → t ≡ v_index a b c
 triple_is t a b c e =

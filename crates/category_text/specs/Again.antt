@@ -1,5 +1,5 @@
 -- Canonical texts are read again, and no two categories have the same.
-use Rattle.std.specs.Prelude.{◌≡◌, ℕ, ◌-◌, ◌^◌, ◌<◌, ◌||◌, ◌==◌, length, true, List, IsOkAnd, IsTrue}
+use Rattle.std.specs.Prelude.{◌≡◌, ℕ, ◌-◌, ◌^◌, ◌<◌, ◌||◌, ◌==◌, length, true, IsOkAnd, IsTrue}
 use Rattle.poly_core.specs.Rho.{is_accepted}
 use Rattle.cyclo_core.specs.Ratio.{Ratio, ring_at, is_held}
 use Rattle.fusion_rules.specs.Fusion.{unit_fuses}
