@@ -15,6 +15,22 @@ const FIB_TAIL: &str = "r t t 1 0,0,0,1\nr t t t 1,1,1,1\nw t t 1 -1,0,-1,-1\nv 
 // Two labels of which the second is its own dual.
 const Z2: &str = "category 1\nroot 1\nlabels 1 g\nfuse g g 1\n";
 
+// The Fibonacci category over the roots 10 and 60.
+const FIB_10: &str = "category 1\nroot 10\nlabels 1 t\nfuse t t 1\nfuse t t t\n\
+    f t t t t 1 1 0,0,1,-1\nf t t t t 1 t 0,0,1,-1\nf t t t t t t 0,0,-1,1\n";
+
+const FIB_10_TAIL: &str = "r t t 1 0,-1\nr t t t 0,0,0,1\nw t t 1 0,0,1,-1\nv t t 1 1,0,1,-1\n";
+
+const FIB_60: &str = "category 1\nroot 60\nlabels 1 t\nfuse t t 1\nfuse t t t\n\
+    f t t t t 1 1 -1,0,0,0,1,0,1,0,0,0,0,0,0,0,-1\n\
+    f t t t t 1 t -1,0,0,0,1,0,1,0,0,0,0,0,0,0,-1\n\
+    f t t t t t t 1,0,0,0,-1,0,-1,0,0,0,0,0,0,0,1\n";
+
+const FIB_60_TAIL: &str = "r t t 1 0,0,0,0,0,0,-1\n\
+    r t t t 1,0,0,0,-1,0,-1,0,0,0,0,0,1,0,1\n\
+    w t t 1 -1,0,0,0,1,0,1,0,0,0,0,0,0,0,-1\n\
+    v t t 1 0,0,0,0,1,0,1,0,0,0,0,0,0,0,-1\n";
+
 // Left-combed starts of four strands.
 const T4: &str = "program 1\nstart (((t t):1 t):t t):1\n";
 
@@ -53,20 +69,21 @@ fn words(alloc: Global, line: &str) -> Result<Vec<String>, AllocError> {
         .try_collect(alloc)
 }
 
-// Runs `comb CAT PROG` and compares what is answered and what is written.
+// Runs these words and compares what is answered and what is written.
 fn check(
     rt: &impl Abort,
     alloc: Global,
+    line: &str,
     texts: Texts<'_>,
     status: Status,
-    bytes: &str,
+    bytes: &[u8],
 ) -> Result<(), AllocError> {
     let mut shelf = SureShelf::new(texts.files(alloc)?, 4096);
-    let mut sink = MemSink::new(alloc, 200, Vec::new(alloc), 200)?;
-    let words = words(alloc, "comb CAT PROG")?;
+    let mut sink = MemSink::new(alloc, 300, Vec::new(alloc), 200)?;
+    let words = words(alloc, line)?;
     let answer = anyon(alloc, words.as_slice(), &mut shelf, &mut sink);
-    assert_eq!(rt; sink.taken(), bytes.as_bytes());
-    assert_eq!(rt; answer, status, "{bytes}");
+    assert_eq!(rt; sink.taken(), bytes);
+    assert_eq!(rt; answer, status, "{line}");
     Ok(())
 }
 
@@ -92,19 +109,143 @@ fn rows(rt: HostRuntime) -> Result<(), Fail> {
         check(
             &rt,
             alloc,
+            "comb CAT PROG",
             Texts(FIB, FIB_TAIL, start, commands),
             Status::Done,
-            bytes,
+            bytes.as_bytes(),
         )?;
     }
-    let half = Texts(Z2, "f g g g g 1 1 1/2\n", G4, "measure 2\n");
-    check(
-        &rt,
-        alloc,
-        half,
-        Status::Done,
-        "total 1\noutcome 1 weight 1/16\n",
-    )?;
+    Ok(())
+}
+
+// Two labels over other roots.
+#[test]
+fn rows_of_other_roots(rt: HostRuntime) -> Result<(), Fail> {
+    let alloc = rt.alloc();
+    for (category, symbols, start, commands, bytes) in [
+        (
+            Z2,
+            "f g g g g 1 1 1/2\n",
+            G4,
+            "measure 2\n",
+            "total 1\noutcome 1 weight 1/16\n",
+        ),
+        (
+            "category 1\nroot 10\nlabels 1 g\nfuse g g 1\n",
+            "f g g g g 1 1 0,0,0,1\nr g g 1 -1,1,-1,1\nw g g 1 1,1\n",
+            G4,
+            "braid 2 +\nmeasure 2\n",
+            "total 1,2,1\noutcome 1 weight 20,15,20\n",
+        ),
+        (
+            "category 1\nroot 60\nlabels 1 g\nfuse g g 1\n",
+            "f g g g g 1 1 -1\nr g g 1 0,0,0,0,0,0,0,0,0,0,0,0,0,0,0,1\n",
+            G4,
+            "braid 2 +\nmeasure 2\n",
+            "total 1\noutcome 1 weight 1\n",
+        ),
+        (
+            FIB_10,
+            FIB_10_TAIL,
+            T4,
+            "braid 2 +\nmeasure 1\n",
+            "total 1,0,-1,1\noutcome 1 weight 2,0,-3,3\noutcome t weight -1,0,2,-2\n",
+        ),
+        (
+            FIB_60,
+            FIB_60_TAIL,
+            T4,
+            "braid 2 +\nmeasure 1\n",
+            "total 2,0,0,0,-1,0,-1,0,0,0,0,0,0,0,1\n\
+            outcome 1 weight 5,0,0,0,-3,0,-3,0,0,0,0,0,0,0,3\n\
+            outcome t weight -3,0,0,0,2,0,2,0,0,0,0,0,0,0,-2\n",
+        ),
+    ] {
+        check(
+            &rt,
+            alloc,
+            "comb CAT PROG",
+            Texts(category, symbols, start, commands),
+            Status::Done,
+            bytes.as_bytes(),
+        )?;
+    }
+    Ok(())
+}
+
+// Each text of the Fibonacci category is written in the same form.
+#[test]
+fn formats(rt: HostRuntime) -> Result<(), Fail> {
+    let alloc = rt.alloc();
+    let fib = joined(alloc, FIB, FIB_TAIL)?;
+    for (first, second) in [
+        (FIB, FIB_TAIL),
+        // A comment, two lines exchanged, a number that isn't reduced.
+        (
+            "category 1\nroot 5\nlabels 1 t\n# a comment\nfuse t t 1\nfuse t t t\n",
+            "f t t t t 1 1 -1,0,-1,-1\nf t t t t 1 t -1,0,-1,-1\nf t t t t t t 1,0,1,1\n\
+            w t t 1 -1,0,-1,-1\nr t t t 2,2,2,2/2\nr t t 1 0,0,0,1\nv t t 1 0,0,-1,-1\n",
+        ),
+        // The last line has no end.
+        (
+            FIB,
+            "r t t 1 0,0,0,1\nr t t t 1,1,1,1\nw t t 1 -1,0,-1,-1\nv t t 1 0,0,-1,-1",
+        ),
+    ] {
+        check(
+            &rt,
+            alloc,
+            "format CAT",
+            Texts(first, second, "", ""),
+            Status::Done,
+            &fib,
+        )?;
+    }
+    // Neither rules nor symbols are judged, and the number of labels is free.
+    for text in [
+        "category 1\nroot 1\nlabels 1\n",
+        "category 1\nroot 1\nlabels 1 g\n",
+        "category 1\nroot 60\nlabels 1 a b c d e f g h i j k\nfuse a b k\nfuse k k k\n\
+        f k k k k k k 0\nr k k k 0,0,0,0,0,0,0,0,0,0,0,0,0,0,0,1/3\nw 1 k k -1\n",
+    ] {
+        check(
+            &rt,
+            alloc,
+            "format CAT",
+            Texts(text, "", "", ""),
+            Status::Done,
+            text.as_bytes(),
+        )?;
+    }
+    Ok(())
+}
+
+#[test]
+fn refused_formats(rt: HostRuntime) -> Result<(), Fail> {
+    let alloc = rt.alloc();
+    for (first, second, bytes) in [
+        (FIB, "r t t", "refused category line 9 short\n"),
+        ("", "", "refused category line 1 header\n"),
+        (
+            "category 1\nroot 5\nlabels 1 t\nfuse 1 t t\nfuse t t 1\nfuse t t t\n",
+            "f t t t t 1 1 -1,0,-1,-1\n",
+            "refused category line 4 unit fuse\n",
+        ),
+        (
+            FIB,
+            "r t t 1 0,0,0,1\nr t t 1 0,0,0,1\nr t t t 1,1,1,1\n",
+            "refused category line 10 repeated\n",
+        ),
+    ] {
+        check(
+            &rt,
+            alloc,
+            "format CAT",
+            Texts(first, second, "", ""),
+            Status::Refused,
+            bytes.as_bytes(),
+        )?;
+    }
     Ok(())
 }
 
@@ -140,9 +281,10 @@ fn refused_categories(rt: HostRuntime) -> Result<(), Fail> {
         check(
             &rt,
             alloc,
+            "comb CAT PROG",
             Texts(first, second, "", ""),
             Status::Refused,
-            bytes,
+            bytes.as_bytes(),
         )?;
     }
     Ok(())
@@ -166,9 +308,10 @@ fn refused_programs(rt: HostRuntime) -> Result<(), Fail> {
         check(
             &rt,
             alloc,
+            "comb CAT PROG",
             texts,
             Status::Refused,
-            "refused not built program\n",
+            b"refused not built program\n",
         )?;
     }
     Ok(())
@@ -203,9 +346,10 @@ fn limits(rt: HostRuntime) -> Result<(), Fail> {
         check(
             &rt,
             alloc,
+            "comb CAT PROG",
             Texts(Z2, symbols, G4, commands),
             Status::Limit,
-            bytes,
+            bytes.as_bytes(),
         )?;
     }
     Ok(())
@@ -218,9 +362,12 @@ fn words_and_names(rt: HostRuntime) -> Result<(), Fail> {
     let texts = Texts(FIB, FIB_TAIL, T4, "measure 2\n");
     for (line, status) in [
         ("", Status::Usage),
+        ("format", Status::Usage),
+        ("format CAT PROG", Status::Usage),
         ("comb CAT", Status::Usage),
         ("comb CAT PROG PROG", Status::Usage),
         ("run CAT PROG", Status::Usage),
+        ("format none", Status::ReadFault),
         ("comb none PROG", Status::ReadFault),
         ("comb CAT none", Status::ReadFault),
     ] {
@@ -238,27 +385,33 @@ fn words_and_names(rt: HostRuntime) -> Result<(), Fail> {
 #[test]
 fn faults(rt: HostRuntime) -> Result<(), Fail> {
     let alloc = rt.alloc();
-    let words = words(alloc, "comb CAT PROG")?;
+    fail_each(&rt, alloc, "comb CAT PROG", ROWS.as_bytes())?;
+    fail_each(&rt, alloc, "format CAT", &joined(alloc, FIB, FIB_TAIL)?)?;
+    Ok(())
+}
+
+fn fail_each(rt: &impl Abort, alloc: Global, line: &str, bytes: &[u8]) -> Result<(), AllocError> {
+    let words = words(alloc, line)?;
     let texts = Texts(FIB, FIB_TAIL, T4, "measure 2\n");
 
     let mut shelf = MemShelf::new(texts.files(alloc)?, Vec::new(alloc), 64);
-    let mut sink = MemSink::new(alloc, 200, Vec::new(alloc), 16)?;
+    let mut sink = MemSink::new(alloc, 300, Vec::new(alloc), 16)?;
     assert_eq!(rt;
         anyon(alloc, words.as_slice(), &mut shelf, &mut sink),
         Status::Done
     );
-    assert_eq!(rt; sink.taken(), ROWS.as_bytes());
+    assert_eq!(rt; sink.taken(), bytes);
 
     for k in 0..shelf.calls() {
         let mut shelf = MemShelf::new(texts.files(alloc)?, vec![in alloc; k + 1]?, 64);
-        let mut sink = MemSink::new(alloc, 200, Vec::new(alloc), 16)?;
+        let mut sink = MemSink::new(alloc, 300, Vec::new(alloc), 16)?;
         let status = anyon(alloc, words.as_slice(), &mut shelf, &mut sink);
         assert_eq!(rt; status, Status::ReadFault, "read {k}");
         assert_eq!(rt; sink.taken().len(), 0, "read {k}");
     }
     for k in 0..sink.calls() {
         let mut shelf = SureShelf::new(texts.files(alloc)?, 64);
-        let mut sink = MemSink::new(alloc, 200, vec![in alloc; k + 1]?, 16)?;
+        let mut sink = MemSink::new(alloc, 300, vec![in alloc; k + 1]?, 16)?;
         let status = anyon(alloc, words.as_slice(), &mut shelf, &mut sink);
         assert_eq!(rt; status, Status::WriteFault, "write {k}");
         assert_eq!(rt;
@@ -274,21 +427,32 @@ fn faults(rt: HostRuntime) -> Result<(), Fail> {
 #[test]
 fn long_texts(rt: HostRuntime) -> Result<(), Fail> {
     let alloc = rt.alloc();
-    let words = words(alloc, "comb CAT PROG")?;
-    for (place, size, status, bytes) in [
-        (0, 4_194_304, Status::Done, ROWS),
-        (0, 4_194_305, Status::Refused, "refused category too long\n"),
-        (1, 4_194_305, Status::Refused, "refused not built program\n"),
+    let too_long = "refused category too long\n";
+    for (line, place, size, status, first, second) in [
+        ("comb CAT PROG", 0, 4_194_304, Status::Done, ROWS, ""),
+        ("comb CAT PROG", 0, 4_194_305, Status::Refused, too_long, ""),
+        (
+            "comb CAT PROG",
+            1,
+            4_194_305,
+            Status::Refused,
+            "refused not built program\n",
+            "",
+        ),
+        ("format CAT", 0, 4_194_304, Status::Done, FIB, FIB_TAIL),
+        ("format CAT", 0, 4_194_305, Status::Refused, too_long, ""),
     ] {
         let mut files = Texts(FIB, FIB_TAIL, T4, "measure 2\n").files(alloc)?;
         if let Some(file) = files.get_mut(place) {
             add_comments(&mut file.1, size)?;
         }
         let mut shelf = SureShelf::new(files, 4096);
-        let mut sink = MemSink::new(alloc, 200, Vec::new(alloc), 200)?;
+        let mut sink = MemSink::new(alloc, 300, Vec::new(alloc), 200)?;
+        let words = words(alloc, line)?;
         let answer = anyon(alloc, words.as_slice(), &mut shelf, &mut sink);
-        assert_eq!(rt; answer, status, "{place} {size}");
-        assert_eq!(rt; sink.taken(), bytes.as_bytes(), "{place} {size}");
+        assert_eq!(rt; answer, status, "{line} {size}");
+        let bytes = joined(alloc, first, second)?;
+        assert_eq!(rt; sink.taken(), bytes.as_slice(), "{line} {size}");
     }
     Ok(())
 }

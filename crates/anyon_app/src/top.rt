@@ -17,7 +17,7 @@ use std::alloc::Global;
 ///
 /// `format CAT` reads the category text of this name and writes its canonical text. `comb CAT PROG`
 /// reads a category text and a program text, and writes the total and the rows of the program on
-/// left-combed paths. Each text may have 4,194,304 bytes. All other words are `Usage`. Whatever is
+/// left-combed paths. A text has at most 4,194,304 bytes. All other words are `Usage`. Whatever is
 /// written is built whole before its first byte is written.
 ///
 /// - `Done`, `Refused`, `Limit`: the whole reply was written.

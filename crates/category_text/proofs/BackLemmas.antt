@@ -142,7 +142,7 @@ plain_left : (ls ms : List (List (List ℕ))) → AllPlain (ls ++ ms) → AllPla
 plain_left [] ms all = (tt, all)
 plain_left (ws ∷ ls) ms all = let rest = plain_left ls ms all.1 in ((all.0, rest.0), rest.1)
 
-names_stay : (said : NamedSymbols) (ts : List VIndex) → (fused_all said ts).names ≡ said.names
+pub names_stay : (said : NamedSymbols) (ts : List VIndex) → (fused_all said ts).names ≡ said.names
 names_stay said [] = refl
 names_stay said (t ∷ ts) = names_stay (fused_with said t) ts
 

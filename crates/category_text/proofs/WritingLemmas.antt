@@ -1,7 +1,8 @@
 -- The text of all labels is written label by label.
-use Rattle.std.proofs.Common.{◌≡◌, ◌↔◌, ℕ, suc, ◌+◌, ◌-◌, ◌<◌, List, [], ◌∷◌, ◌++◌, Bool, true, false, length, map, filter, drop, refl, ap, sym, ◌∙◌, arith, append_assoc, IsTrue, if◌then◌else◌}
+use Rattle.std.proofs.Common.{◌≡◌, ◌↔◌, ℕ, suc, ◌+◌, ◌-◌, ◌<◌, List, [], ◌∷◌, ◌++◌, Bool, true, false, length, map, filter, drop, refl, ap, sym, ◌∙◌, arith, append_assoc, IsTrue, if◌then◌else◌, inl, inr, subst, Result, Ok, Err, OnOk}
 use Rattle.std.specs.List.{flat_map}
 use Rattle.std.proofs.lemmas.List.{append-nil, drop_more}
+use Rattle.std.proofs.lemmas.Bool.{cases_lt}
 use Rattle.line_text.specs.Spelling.{spelled, spaced}
 use Rattle.cyclo_core.specs.Ratio.{Ratio, same_ratio}
 use Rattle.cyclo_core.specs.CycloLaws.{same_ratio_is}
@@ -29,6 +30,14 @@ counting_more c n below = let e : n - c ≡ suc (n - (c + 1)) = omega arith in a
 pub texts_more : (text : ℕ → List ℕ) (c n : ℕ) (old new : List ℕ) → new ≡ old ++ text c → c < n → new ++ texts text (counting (c + 1) (n - (c + 1))) ≡ old ++ texts text (counting c (n - c))
 texts_more text c n old new e below =
     ap (λ t. t ++ texts text (counting (c + 1) (n - (c + 1)))) e ∙ append_assoc old (text c) (texts text (counting (c + 1) (n - (c + 1)))) ∙ ap (λ cs. old ++ texts text cs) (sym (counting_more c n below))
+
+-- what holds below a number and of it holds below the next
+pub up_to_more : (P : ℕ → Type 0) (n : ℕ) → ((k : ℕ) → k < n → P k) → P n → (k : ℕ) → k < n + 1 → P k
+up_to_more P n before now k below =
+    elim (cases_lt k n) [
+      | inl lt ↦ before k lt
+      | inr ge ↦ subst P (omega arith) now
+    ]
 
 pub names_more : (names : List (List ℕ)) (k : ℕ) (old new : List ℕ) → new ≡ old ++ 32 ∷ name_of names k → k < length names → new ++ names_text (drop (k + 1) names) ≡ old ++ names_text (drop k names)
 names_more names k old new e below =
@@ -119,3 +128,8 @@ same_truth false false there back = refl
 
 pub is_one_is : (test : Bool) (x y : Ratio) → IsTrue test ↔ (x ≡ y) → test ≡ same_ratio x y
 is_one_is test x y says = same_truth test (same_ratio x y) (λ t. (same_ratio_is x y).1 (says.0 t)) (λ t. says.1 ((same_ratio_is x y).0 t))
+
+-- what holds anyway holds where there is a value
+pub where_ok : {T E P : Type 0} (r : Result T E) → P → OnOk r P
+where_ok (Ok x) p = p
+where_ok (Err e) p = tt

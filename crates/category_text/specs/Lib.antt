@@ -4,3 +4,4 @@ pub mod Answers
 pub mod Canonical
 pub mod Writing
 pub mod Spelled
+pub mod Again

@@ -1,6 +1,7 @@
 -- The parts of a canonical text, label by label.
-use Rattle.std.specs.Prelude.{ℕ, List, [], ◌∷◌, ◌++◌, if◌then◌else◌}
+use Rattle.std.specs.Prelude.{ℕ, ◌<◌, List, [], ◌∷◌, ◌++◌, if◌then◌else◌, IsTrue}
 use Rattle.line_text.specs.Spelling.{spelled}
+use Rattle.symbol_table.specs.Draft.{f_index_admissible}
 use Rattle.symbol_table.specs.Index.{AreThreeLabels, v_index}
 use Rattle.symbol_table.specs.declared.index.FIndex.{FIndex}
 use Rattle.symbol_table.specs.declared.index.VIndex.{VIndex}
@@ -9,7 +10,8 @@ use Rattle.category_text.specs.declared.kind.VertexKind.TheVariants.{OnR, OnW, O
 use Rattle.category_text.specs.declared.kind.Group.{Group}
 use Rattle.category_text.specs.declared.kind.Group.TheVariants.{Fusions, Vertices, FBehind}
 use Rattle.category_text.specs.Named.{NamedSymbols}
-use Rattle.category_text.specs.Canonical.{counting, behind, fuse_line, f_line, vertex_line, has_fuse_line, has_f_line, has_vertex_line, head_lines}
+use Rattle.category_text.specs.Canonical.{counting, behind, fuse_line, f_line, vertex_line, has_fuse_line, has_f_line, has_vertex_line, head_lines, f_value, vertex_value}
+use Rattle.category_text.specs.Again.{IsNumberOf}
 
 -- texts, one behind the other
 abbrev pub texts : {A : Type 0} → (A → List ℕ) → List A → List ℕ
@@ -59,3 +61,35 @@ abbrev pub written : NamedSymbols → List ℕ
 written named =
     spelled (head_lines named) ++ (space named.given.count (fuse_text named) ++ (space named.given.count (behind_text named)
     ++ (space named.given.count (vertex_text named OnR) ++ (space named.given.count (vertex_text named OnW) ++ space named.given.count (vertex_text named OnV)))))
+
+-- What is read on the way: at each admissible index a number of the root's ring.
+abbrev pub FNumber : NamedSymbols → FIndex → Type 0
+FNumber named at = IsTrue (f_index_admissible named.given at) → IsNumberOf named.root (f_value named at)
+
+abbrev pub VertexNumber : NamedSymbols → VertexKind → VIndex → Type 0
+VertexNumber named kind at = IsTrue (named.given.fuse at.a at.b at.c) → IsNumberOf named.root (vertex_value named kind at)
+
+abbrev pub GroupNumber : NamedSymbols → Group → VIndex → Type 0
+GroupNumber named Fusions at = Unit {0}
+GroupNumber named (Vertices kind) at = VertexNumber named kind at
+GroupNumber named (FBehind first) at = FNumber named (behind first at)
+
+-- what holds of all labels below a count, where the last, the last two and all three run
+abbrev pub InRow : ℕ → (VIndex → Type 0) → ℕ → ℕ → Type 0
+InRow n P a b = (c : ℕ) → c < n → P (v_index a b c)
+
+abbrev pub InPlane : ℕ → (VIndex → Type 0) → ℕ → Type 0
+InPlane n P a = (b : ℕ) → b < n → InRow n P a b
+
+abbrev pub InSpace : ℕ → (VIndex → Type 0) → Type 0
+InSpace n P = (a : ℕ) → a < n → InPlane n P a
+
+abbrev pub BehindNumber : NamedSymbols → VIndex → Type 0
+BehindNumber named first = InSpace named.given.count (GroupNumber named (FBehind first))
+
+-- the numbers of a whole category
+pub record AllNumbers (named : NamedSymbols) : Type 0 where
+  pub f : InSpace named.given.count (BehindNumber named)
+  pub r : InSpace named.given.count (GroupNumber named (Vertices OnR))
+  pub w : InSpace named.given.count (GroupNumber named (Vertices OnW))
+  pub v : InSpace named.given.count (GroupNumber named (Vertices OnV))

@@ -1,7 +1,18 @@
 ghost use Rattle.category_text.specs.Spelled.{SpelledAgain};
+ghost use Rattle.category_text.specs.Again.{AllReadAgain, AllShort, OneText, SameText};
 
 /// A spelled text is read again: the head, new triples, and values of new admissible indices, each line with one space
 /// between words. What it says is exactly these.
 pub fn spelled_categories()
     ensures spelled_again { SpelledAgain }
+{}
+
+/// What can be said is read again from its canonical text, to the same category: the root, the names, the triples, and
+/// F, R, w and v at all labels; the text is short enough for the reader. Two that have one text are the same, and the same
+/// has one text.
+pub fn canonical_texts()
+    ensures read_again { AllReadAgain }
+    ensures short { AllShort }
+    ensures one_text { OneText }
+    ensures same_text { SameText }
 {}

@@ -11,6 +11,10 @@
 //! - *canonical text*: the one text that is written for named symbols (`specs/Canonical.antt`).
 //! - *spelled text*: the lines of a head, new triples and values of new indices, one behind the other
 //!   (`specs/Spelled.antt`).
+//! - *what can be said*: what every value of the code's type is: names, labels, triples and numbers that go together
+//!   (`specs/Again.antt`, `IsSaid`).
+//! - *same category*: the same root, names and triples, and the same symbols at all labels (`specs/Again.antt`,
+//!   `SameSymbols`).
 #![tactic(auto)]
 
 mod body;
@@ -26,7 +30,7 @@ mod words;
 mod writing;
 
 pub use fault::{CategoryCause, CategoryFault};
-pub use laws::spelled_categories;
+pub use laws::{canonical_texts, spelled_categories};
 pub use named::Named;
 pub use reading::read_category;
 pub use writing::write_category;

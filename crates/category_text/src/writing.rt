@@ -1,12 +1,15 @@
-ghost use Rattle.std.specs.Prelude.{◌≡◌, ◌<◌, ◌++◌, ◌∷◌, [], IsTrue, IfOk, OnOk, OnErr, length};
+ghost use Rattle.std.specs.Prelude.{◌≡◌, ◌<◌, ◌-◌, ◌^◌, ◌++◌, ◌∷◌, [], IsTrue, IfOk, OnOk, OnErr, length};
 ghost use Rattle.line_text.specs.Spelling.{spelled};
-ghost use Rattle.cyclo_core.specs.Ratio.{ring_at};
+ghost use Rattle.poly_core.specs.Rho.{is_accepted};
+ghost use Rattle.cyclo_core.specs.Ratio.{is_held, ring_at};
 ghost use Rattle.cyclo_text.specs.NumberWords.{spelled_number};
-ghost use Rattle.fusion_rules.specs.Fusion.{fuses};
+ghost use Rattle.fusion_rules.specs.Fusion.{AreRules, fuses};
+ghost use Rattle.fusion_rules.specs.Names.{AreNames};
 ghost use Rattle.symbol_table.specs.Index.{AreSixLabels, AreThreeLabels};
 ghost use Rattle.category_text.specs.Named.{seen};
 ghost use Rattle.category_text.specs.Canonical.{behind, canonical, f_words, head_lines, is_one, kind_word, name_of, vertex_value};
-ghost use Rattle.category_text.specs.Writing.{GroupBelow, behind_text, f_text, fuse_text, group_text, names_text, plane, row, space, vertex_text, written};
+ghost use Rattle.category_text.specs.Again.{IsSaid, ReadAgain};
+ghost use Rattle.category_text.specs.Writing.{BehindNumber, FNumber, GroupBelow, GroupNumber, InPlane, InRow, InSpace, VertexNumber, behind_text, f_text, fuse_text, group_text, names_text, plane, row, space, vertex_text, written};
 
 use crate::kind::{Group, VertexKind};
 use crate::named::Named;
@@ -22,10 +25,13 @@ use symbol_table::{FIndex, VIndex};
 /// triples whose first two labels aren't the unit, and the values of F, R, w and v that aren't 1 at their admissible
 /// indices. Each of these five groups stands in the order of its label numbers.
 ///
-/// Asks for as many names as the rules have labels. Only want of memory refuses it, and `out` is then unchanged.
+/// Asks for as many names as the rules have labels. What is written is read again, to the same category, and is short
+/// enough for the reader. Only want of memory refuses it, and `out` is then unchanged.
 pub fn write_category(alloc: Global, named: &Named, out: &mut Vec<u8>) -> Result<(), AllocError>
     requires { length named.now.names ≡ named.now.draft.rules.count }
     ensures written { OnOk result (out.new.items ≡ out.old.items ++ canonical (seen named.now)) }
+    ensures again { OnOk result (ReadAgain (seen named.now)) }
+    ensures short { OnOk result (length (canonical (seen named.now)) < 2 ^ 32 - 1) }
     ensures unchanged { OnErr result (out.new.items ≡ out.old.items) }
 {
     let text = whole_text(alloc, named)?;
@@ -34,7 +40,8 @@ pub fn write_category(alloc: Global, named: &Named, out: &mut Vec<u8>) -> Result
 
 fn whole_text(alloc: Global, named: &Named) -> Result<Vec<u8>, AllocError>
     requires { length named.now.names ≡ named.now.draft.rules.count }
-    ensures { IfOk result (λ text. text.items ≡ canonical (seen named.now)) }
+    ensures text { IfOk result (λ text. text.items ≡ canonical (seen named.now)) }
+    ensures said { OnOk result (IsSaid (seen named.now)) }
 {
     let mut text = Vec::new(alloc);
     write_head(named, &mut text)?;
@@ -48,7 +55,9 @@ fn whole_text(alloc: Global, named: &Named) -> Result<Vec<u8>, AllocError>
 
 /// Appends the first three lines.
 fn write_head(named: &Named, text: &mut Vec<u8>) -> Result<(), AllocError>
-    ensures { OnOk result (text.new.items ≡ text.old.items ++ spelled (head_lines (seen named.now))) }
+    ensures text { OnOk result (text.new.items ≡ text.old.items ++ spelled (head_lines (seen named.now))) }
+    ensures names { OnOk result (AreNames named.now.names) }
+    ensures accepted { OnOk result (IsTrue (is_accepted named.now.draft.ring)) }
 {
     text.extend_from_slice(b"category 1\nroot ")?;
     text.extend_from_slice(Buffer::new().format(named.draft.ring().root()).as_bytes())?;
@@ -60,7 +69,8 @@ fn write_head(named: &Named, text: &mut Vec<u8>) -> Result<(), AllocError>
 
 /// Appends all names, each behind a space.
 fn write_names(names: &Names, text: &mut Vec<u8>) -> Result<(), AllocError>
-    ensures { OnOk result (text.new.items ≡ text.old.items ++ names_text names.now) }
+    ensures text { OnOk result (text.new.items ≡ text.old.items ++ names_text names.now) }
+    ensures names { AreNames names.now }
 {
     for label in 0..names.count() {
         write_word(names.name(label).as_bytes(), text)?;
@@ -71,9 +81,11 @@ fn write_names(names: &Names, text: &mut Vec<u8>) -> Result<(), AllocError>
 /// Appends the F lines, for all first three labels.
 fn write_f_groups(alloc: Global, named: &Named, text: &mut Vec<u8>) -> Result<(), AllocError>
     requires { length named.now.names ≡ named.now.draft.rules.count }
-    ensures { OnOk result (text.new.items ≡ text.old.items ++ space named.now.draft.rules.count (behind_text (seen named.now))) }
+    ensures text { OnOk result (text.new.items ≡ text.old.items ++ space named.now.draft.rules.count (behind_text (seen named.now))) }
+    ensures numbers { OnOk result (InSpace named.now.draft.rules.count (BehindNumber (seen named.now))) }
+    ensures rules { AreRules named.now.draft.rules }
 {
-    for a in 0..named.names.count() {
+    for a in 0..named.draft.rules().count() {
         write_f_planes(alloc, named, a, text)?;
     }
     Ok(())
@@ -82,7 +94,8 @@ fn write_f_groups(alloc: Global, named: &Named, text: &mut Vec<u8>) -> Result<()
 fn write_f_planes(alloc: Global, named: &Named, a: u8, text: &mut Vec<u8>) -> Result<(), AllocError>
     requires names { length named.now.names ≡ named.now.draft.rules.count }
     requires first { a < named.now.draft.rules.count }
-    ensures { OnOk result (text.new.items ≡ text.old.items ++ plane named.now.draft.rules.count (behind_text (seen named.now)) a) }
+    ensures text { OnOk result (text.new.items ≡ text.old.items ++ plane named.now.draft.rules.count (behind_text (seen named.now)) a) }
+    ensures numbers { OnOk result (InPlane named.now.draft.rules.count (BehindNumber (seen named.now)) a) }
 {
     for b in 0..named.names.count() {
         write_f_rows(alloc, named, a, b, text)?;
@@ -100,7 +113,8 @@ fn write_f_rows(
     requires names { length named.now.names ≡ named.now.draft.rules.count }
     requires first { a < named.now.draft.rules.count }
     requires second { b < named.now.draft.rules.count }
-    ensures { OnOk result (text.new.items ≡ text.old.items ++ row named.now.draft.rules.count (behind_text (seen named.now)) a b) }
+    ensures text { OnOk result (text.new.items ≡ text.old.items ++ row named.now.draft.rules.count (behind_text (seen named.now)) a b) }
+    ensures numbers { OnOk result (InRow named.now.draft.rules.count (BehindNumber (seen named.now)) a b) }
 {
     for c in 0..named.names.count() {
         write_group(alloc, named, Group::FBehind(VIndex { a, b, c }), text)?;
@@ -117,7 +131,8 @@ fn write_group(
 ) -> Result<(), AllocError>
     requires names { length named.now.names ≡ named.now.draft.rules.count }
     requires below { GroupBelow named.now.draft.rules.count group }
-    ensures { OnOk result (text.new.items ≡ text.old.items ++ space named.now.draft.rules.count (group_text (seen named.now) group)) }
+    ensures text { OnOk result (text.new.items ≡ text.old.items ++ space named.now.draft.rules.count (group_text (seen named.now) group)) }
+    ensures numbers { OnOk result (InSpace named.now.draft.rules.count (GroupNumber (seen named.now) group)) }
 {
     for a in 0..named.names.count() {
         write_plane(alloc, named, group, a, text)?;
@@ -135,7 +150,8 @@ fn write_plane(
     requires names { length named.now.names ≡ named.now.draft.rules.count }
     requires below { GroupBelow named.now.draft.rules.count group }
     requires first { a < named.now.draft.rules.count }
-    ensures { OnOk result (text.new.items ≡ text.old.items ++ plane named.now.draft.rules.count (group_text (seen named.now) group) a) }
+    ensures text { OnOk result (text.new.items ≡ text.old.items ++ plane named.now.draft.rules.count (group_text (seen named.now) group) a) }
+    ensures numbers { OnOk result (InPlane named.now.draft.rules.count (GroupNumber (seen named.now) group) a) }
 {
     for b in 0..named.names.count() {
         write_row(alloc, named, group, a, b, text)?;
@@ -155,7 +171,8 @@ fn write_row(
     requires below { GroupBelow named.now.draft.rules.count group }
     requires first { a < named.now.draft.rules.count }
     requires second { b < named.now.draft.rules.count }
-    ensures { OnOk result (text.new.items ≡ text.old.items ++ row named.now.draft.rules.count (group_text (seen named.now) group) a b) }
+    ensures text { OnOk result (text.new.items ≡ text.old.items ++ row named.now.draft.rules.count (group_text (seen named.now) group) a b) }
+    ensures numbers { OnOk result (InRow named.now.draft.rules.count (GroupNumber (seen named.now) group) a b) }
 {
     for c in 0..named.names.count() {
         write_line(alloc, named, group, VIndex { a, b, c }, text)?;
@@ -174,7 +191,8 @@ fn write_line(
     requires names { length named.now.names ≡ named.now.draft.rules.count }
     requires below { GroupBelow named.now.draft.rules.count group }
     requires labels { AreThreeLabels named.now.draft.rules.count at.a at.b at.c }
-    ensures { OnOk result (text.new.items ≡ text.old.items ++ group_text (seen named.now) group at) }
+    ensures text { OnOk result (text.new.items ≡ text.old.items ++ group_text (seen named.now) group at) }
+    ensures numbers { OnOk result (GroupNumber (seen named.now) group at) }
 {
     match group {
         Group::Fusions => write_fuse(named, at, text),
@@ -208,7 +226,8 @@ fn write_vertex(
 ) -> Result<(), AllocError>
     requires names { length named.now.names ≡ named.now.draft.rules.count }
     requires labels { AreThreeLabels named.now.draft.rules.count at.a at.b at.c }
-    ensures { OnOk result (text.new.items ≡ text.old.items ++ vertex_text (seen named.now) kind at) }
+    ensures text { OnOk result (text.new.items ≡ text.old.items ++ vertex_text (seen named.now) kind at) }
+    ensures numbers { OnOk result (VertexNumber (seen named.now) kind at) }
 {
     if !named.draft.rules().allows(at.a, at.b, at.c) {
         return Ok(());
@@ -233,7 +252,8 @@ fn write_f(
     requires names { length named.now.names ≡ named.now.draft.rules.count }
     requires first { AreThreeLabels named.now.draft.rules.count first.a first.b first.c }
     requires last { AreThreeLabels named.now.draft.rules.count last.a last.b last.c }
-    ensures { OnOk result (text.new.items ≡ text.old.items ++ f_text (seen named.now) (behind first last)) }
+    ensures text { OnOk result (text.new.items ≡ text.old.items ++ f_text (seen named.now) (behind first last)) }
+    ensures numbers { OnOk result (FNumber (seen named.now) (behind first last)) }
 {
     let at = FIndex {
         a: first.a,
@@ -297,6 +317,7 @@ fn vertex_value(named: &Named, kind: VertexKind, at: VIndex) -> Number
     requires { IsTrue (fuses named.now.draft.rules at.a at.b at.c) }
     ensures value { result ≡ vertex_value (seen named.now) kind at }
     ensures member { IsTrue ((ring_at named.now.draft.ring).member result) }
+    ensures held { IsTrue (is_held result) }
 {
     match kind {
         VertexKind::OnR => named.draft.r(&at),

@@ -1,4 +1,5 @@
 pub mod CancelLemmas
 pub mod GivenLemmas
 pub mod NumberLemmas
+pub mod SmallLemmas
 pub mod SumLemmas

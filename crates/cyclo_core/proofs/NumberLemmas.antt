@@ -232,11 +232,14 @@ sum_positive d e pd pe = product_pos d (e / gcd d e) pd (positive_of (gcd d e) (
 pub product_fits_is : (N : ℕ) (x y : Ratio) → IsTrue ((ring_at N).product_fits x y) ↔ BothFit (degree N) (product_size N (at x.numerators) (at y.numerators)) (x.denominator * y.denominator)
 product_fits_is N x y = both_fit (degree N) (product_size N (at x.numerators) (at y.numerators)) (x.denominator * y.denominator)
 
-pub sum_fits_is : (N : ℕ) (x y : Ratio) (g : ℕ) → g ≡ gcd x.denominator y.denominator
-    → IsTrue ((ring_at N).sum_fits x y) ↔ BothFit (degree N) (λ j. unsigned_abs (at x.numerators j) * (y.denominator / g) + unsigned_abs (at y.numerators j) * (x.denominator / g)) (x.denominator * (y.denominator / g))
-sum_fits_is N x y g e =
-    subst (λ k. IsTrue ((ring_at N).sum_fits x y) ↔ BothFit (degree N) (λ j. unsigned_abs (at x.numerators j) * (y.denominator / k) + unsigned_abs (at y.numerators j) * (x.denominator / k)) (x.denominator * (y.denominator / k)))
-    (sym e) (both_fit (degree N) (sum_size x y) (x.denominator * (y.denominator / gcd x.denominator y.denominator)))
+pub by_gcd : (n g k u : ℕ) → u ≡ n / k → k ≡ g → u ≡ n / g
+by_gcd n g k u is same = is ∙ ap (λ m. n / m) same
+
+pub sum_fits_is : (N : ℕ) (x y : Ratio) (u v : ℕ) → u ≡ y.denominator / gcd x.denominator y.denominator → v ≡ x.denominator / gcd x.denominator y.denominator
+    → IsTrue ((ring_at N).sum_fits x y) ↔ BothFit (degree N) (λ j. unsigned_abs (at x.numerators j) * u + unsigned_abs (at y.numerators j) * v) (x.denominator * u)
+sum_fits_is N x y u v left right =
+    let fits : ℕ → ℕ → Type 0 = λ a b. IsTrue ((ring_at N).sum_fits x y) ↔ BothFit (degree N) (λ j. unsigned_abs (at x.numerators j) * a + unsigned_abs (at y.numerators j) * b) (x.denominator * a) in
+    subst (λ a. fits a v) (sym left) (subst (λ b. fits (y.denominator / gcd x.denominator y.denominator) b) (sym right) (both_fit (degree N) (sum_size x y) (x.denominator * (y.denominator / gcd x.denominator y.denominator))))
 
 pub conjugate_fits_is : (N : ℕ) (x : Ratio) → IsTrue ((ring_at N).conjugate_fits x) ↔ ((j : ℕ) → j < degree N → conjugate_size N (at x.numerators) j ≤ 2 ^ 127 - 1)
 conjugate_fits_is N x = all_fit (degree N) (conjugate_size N (at x.numerators))

@@ -97,7 +97,7 @@ le_of a b h = grind (arith, nat_tests)
 pub test_of : (a b : ℕ) → a ≤ b → IsTrue (nat_le a b)
 test_of a b h = grind (arith, nat_tests)
 
-gcd-one : (m : ℕ) → gcd m 1 ≡ 1
+pub gcd-one : (m : ℕ) → gcd m 1 ≡ 1
 gcd-one m =
     let one_divides : 1 ∣ m = subst (λ z. 1 ∣ z) (let e : 1 * m ≡ m = omega arith in e) (dvd-mul_right 1 m) in
     same_from_IsGcd m 1 _ 1 (IsGcd-gcd m 1) (one_divides, dvd_refl 1, λ e p q. q)

@@ -1,4 +1,5 @@
 pub mod Content
+pub mod Convolution
 pub mod CycloLaws
 pub mod Fraction
 pub mod FractionRing

@@ -1,5 +1,5 @@
 //! Cancelling: the greatest common divisor, and division by it.
-ghost use Rattle.std.specs.Prelude.{◌≡◌, ℕ, ◌≤◌, ◌<◌, ◌^◌, ◌-◌, unsigned_abs, length};
+ghost use Rattle.std.specs.Prelude.{◌≡◌, ℕ, ◌≤◌, ◌<◌, ◌^◌, ◌-◌, ◌/◌, unsigned_abs, length};
 ghost use Rattle.poly_core.specs.Gcd.{gcd};
 ghost use Rattle.poly_core.specs.Table.{at};
 ghost use Rattle.cyclo_core.specs.Content.{content, quotient};
@@ -9,6 +9,9 @@ ghost use Rattle.cyclo_core.specs.Content.{content, quotient};
 pub fn gcd(a: u128, b: u128) -> u128
     ensures { result ≡ gcd a b }
 {
+    if b == 1 {
+        return 1;
+    }
     let mut a = a;
     let mut b = b;
     while b != 0 {
@@ -17,6 +20,18 @@ pub fn gcd(a: u128, b: u128) -> u128
         b = rest;
     }
     a
+}
+
+/// The quotient by a divisor that is mostly 1.
+pub fn divided(number: u128, divisor: u128) -> u128
+    requires { 0 < divisor }
+    ensures { result ≡ number / divisor }
+{
+    if divisor == 1 {
+        number
+    } else {
+        number / divisor
+    }
 }
 
 /// The greatest common divisor of `first` and the magnitudes of sixteen numbers.

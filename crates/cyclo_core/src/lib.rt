@@ -7,6 +7,8 @@
 //! - *ring of a root*: sum, product, negative and conjugate of numbers, and which of them fit
 //!   (`specs/Ratio.antt`; Washington, Introduction to Cyclotomic Fields, chapter 2).
 //! - *content*: the greatest common divisor of some numbers (`specs/Content.antt`).
+//! - *convolution*: the product of two polynomials before reduction, weighed by any powers
+//!   (`specs/Convolution.antt`).
 //! - *given number*: the number of any numerators over any denominator, or why there is none
 //!   (`specs/Given.antt`).
 //! - *layers*: the same ring as fractions of combinations of powers, where its laws are proved
@@ -16,6 +18,7 @@
 mod cancel;
 mod fault;
 mod number;
+mod small;
 mod sums;
 mod tally;
 

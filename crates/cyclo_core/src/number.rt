@@ -7,7 +7,7 @@ ghost use Rattle.cyclo_core.specs.Content.{content};
 ghost use Rattle.cyclo_core.specs.Given.{are_small, number_of};
 ghost use Rattle.cyclo_core.specs.Ratio.{reduced, is_held, ring_at};
 
-use crate::cancel::{content, gcd, quotients};
+use crate::cancel::{content, divided, gcd, quotients};
 use crate::fault::NumberFault;
 use crate::sums::{conjugate, negated, product, sum};
 use poly_core::{PowerTable, RootRefused, powers};
@@ -208,8 +208,8 @@ impl StarRing for Cyclo {
 
     fn add(&self, x: &Number, y: &Number) -> Result<Number, Overflow> {
         let divisor = gcd(x.denominator, y.denominator);
-        let left = y.denominator / divisor;
-        let right = x.denominator / divisor;
+        let left = divided(y.denominator, divisor);
+        let right = divided(x.denominator, divisor);
         let numerators = sum(&self.powers, &x.numerators, left, &y.numerators, right)?;
         let denominator = denominators(x.denominator, left)?;
         Ok(cancelled(&numerators, denominator))

@@ -5,12 +5,13 @@ ghost use Rattle.poly_core.specs.Table.{at};
 ghost use Rattle.cyclo_core.specs.Ratio.{product_term, product_at, product_size_term, product_size, conjugate_term, conjugate_over, conjugate_size_term, conjugate_size};
 ghost use Rattle.cyclo_core.specs.Sums.{int_sum, nat_sum};
 
+use crate::small::small_product;
 use crate::tally::{Tally, add_product, add_term};
 use poly_core::PowerTable;
 use ring_laws::Overflow;
 
 /// phi(N): how many numerators count.
-fn places(powers: &PowerTable) -> usize
+pub fn places(powers: &PowerTable) -> usize
     ensures value { result ≡ degree powers.now }
     ensures few { result ≤ 16 }
     ensures within { result ≤ order powers.now }
@@ -20,7 +21,7 @@ fn places(powers: &PowerTable) -> usize
 }
 
 /// The order N of z.
-fn order_of(powers: &PowerTable) -> usize
+pub fn order_of(powers: &PowerTable) -> usize
     ensures value { result ≡ order powers.now }
     ensures root { result ≡ powers.now }
     ensures positive { 0 < result }
@@ -89,8 +90,12 @@ fn product_numerator(
     Ok(tally.total())
 }
 
-/// The numerators of a product, before cancelling.
-pub fn product(powers: &PowerTable, x: &[i128; 16], y: &[i128; 16]) -> Result<[i128; 16], Overflow>
+/// The numerators of a product before cancelling, by the double sum in 128 bits.
+fn plain_product(
+    powers: &PowerTable,
+    x: &[i128; 16],
+    y: &[i128; 16],
+) -> Result<[i128; 16], Overflow>
     ensures fits { ((j : ℕ) → j < degree powers.now → product_size powers.now (at x.now) (at y.now) j ≤ 2 ^ 127 - 1) ↔ IsOk result }
     ensures value { IfOk result (λ z. (j : ℕ) → j < degree powers.now → at z j ≡ product_at powers.now (at x.now) (at y.now) j) }
     ensures rest { IfOk result (λ z. (j : ℕ) → degree powers.now ≤ j → at z j ≡ pos 0) }
@@ -102,6 +107,19 @@ pub fn product(powers: &PowerTable, x: &[i128; 16], y: &[i128; 16]) -> Result<[i
         out[j] = product_numerator(powers, x, y, j)?;
     }
     Ok(out)
+}
+
+/// The numerators of a product, before cancelling.
+pub fn product(powers: &PowerTable, x: &[i128; 16], y: &[i128; 16]) -> Result<[i128; 16], Overflow>
+    ensures fits { ((j : ℕ) → j < degree powers.now → product_size powers.now (at x.now) (at y.now) j ≤ 2 ^ 127 - 1) ↔ IsOk result }
+    ensures value { IfOk result (λ z. (j : ℕ) → j < degree powers.now → at z j ≡ product_at powers.now (at x.now) (at y.now) j) }
+    ensures rest { IfOk result (λ z. (j : ℕ) → degree powers.now ≤ j → at z j ≡ pos 0) }
+    ensures small { IfOk result (λ z. (j : ℕ) → unsigned_abs (at z j) ≤ 2 ^ 127 - 1) }
+{
+    match small_product(powers, x, y) {
+        Some(numerators) => Ok(numerators),
+        None => plain_product(powers, x, y),
+    }
 }
 
 /// The numerator at j of a conjugate.

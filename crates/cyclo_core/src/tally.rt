@@ -45,7 +45,6 @@ pub fn times(x: &i128, y: &i128) -> Result<i128, Overflow>
 
 /// One term more.
 fn add(tally: Tally, term: &i128) -> Result<Tally, Overflow>
-    requires { unsigned_abs term.now ≤ 2 ^ 127 - 1 }
     ensures fits { (tally.size + unsigned_abs term.now ≤ 2 ^ 127 - 1) ↔ IsOk result }
     ensures value { IfOk result (λ t. t.value ≡ tally.value +ℤ term.now) }
     ensures size { IfOk result (λ t. t.size ≡ tally.size + unsigned_abs term.now) }
@@ -67,6 +66,9 @@ pub fn add_product(tally: Tally, x: &i128, y: &i128) -> Result<Tally, Overflow>
     ensures value { IfOk result (λ t. t.value ≡ tally.value +ℤ (x.now *ℤ y.now)) }
     ensures size { IfOk result (λ t. t.size ≡ tally.size + unsigned_abs x.now * unsigned_abs y.now) }
 {
+    if *y == 1 {
+        return add(tally, x);
+    }
     let term = times(x, y)?;
     add(tally, &term)
 }

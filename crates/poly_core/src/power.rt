@@ -118,4 +118,13 @@ impl PowerTable {
     {
         i64::from(self.rows[usize::from(k)][usize::from(j)])
     }
+
+    /// The sixteen coefficients of z^k, which are zero from phi(N) on.
+    pub fn row(&self, k: u8) -> &[i8; 16]
+        requires { k < self.now }
+        ensures value { at result.now ≡ rho self.now k }
+        ensures tiny { (j : ℕ) → unsigned_abs (at result.now j) ≤ 1 }
+    {
+        &self.rows[usize::from(k)]
+    }
 }

@@ -39,5 +39,7 @@ fn powers_of_a_twelfth_root(rt: HostRuntime) -> Result<(), Fail> {
     assert_eq!(rt; table.rho(4, 0), -1, "z^4 is z^2 - 1");
     assert_eq!(rt; table.rho(4, 2), 1, "z^4 is z^2 - 1");
     assert_eq!(rt; table.rho(11, 3), -1, "z^11 is z - z^3");
+    assert_eq!(rt; table.row(5)[1], -1, "z^5 is z^3 - z");
+    assert_eq!(rt; table.row(5)[3], 1, "z^5 is z^3 - z");
     Ok(())
 }

@@ -1,7 +1,12 @@
 -- Sums over the labels below a count, and two matrices that are inverse.
-use Rattle.std.proofs.Common.{◌≡◌, List, [], ◌∷◌, ◌++◌, ℕ, zero, suc, ◌<◌, Bool, true, false, refl, ap, ap₂, sym, ◌∙◌, arith, inl, inr, ◌⊎◌}
+use Rattle.std.proofs.Common.{◌≡◌, List, [], ◌∷◌, ◌++◌, ℕ, zero, suc, ◌<◌, Bool, true, false, refl, ap, ap₂, sym, ◌∙◌, arith, inl, inr, ◌⊎◌, length, length-set, get_or, get_or-set_other, get_or-set_same}
 use Rattle.std.proofs.lemmas.Bool.Decides.{leb_tells, eqb_tells, nat_tests}
-use Rattle.std.specs.Prelude.{if◌then◌else◌, ◌==◌, ◌&&◌, IsTrue}
+use Rattle.std.specs.Prelude.{set, if◌then◌else◌, ◌==◌, ◌&&◌, IsTrue}
+use Rattle.std.proofs.lemmas.Bool.{cases_eq}
+use Rattle.std.proofs.lemmas.List.Sorted.{IsPermutation-keeps}
+use Rattle.std.specs.List.{swap}
+use Rattle.std.proofs.lemmas.List.Edits.{swap_is}
+use Rattle.ring_laws.specs.Laws.{OrderIsFree}
 use Rattle.ring_laws.specs.Ring.{Ring, Held, RingLaws}
 use Rattle.ring_laws.specs.Sums.{total, sum_over}
 
@@ -163,6 +168,50 @@ module _ {E : Type 0} {R : Ring E} {H : Held E} (laws : RingLaws R H) where
   sum_over-append f [] ys = sym (zero-sum _ (sum_over_is f ys))
   sum_over-append f (x ∷ xs) ys = ap (R.sum (f x)) (sum_over-append f xs ys) ∙ sym (laws.sum_assoc (f x) (sum_over R f xs) (sum_over R f ys))
 
-  -- the order of the pieces is free
-  pub sum_over-swap : {A : Type 0} (f : A → E) (xs ys : List A) → sum_over R f (xs ++ ys) ≡ sum_over R f (ys ++ xs)
-  sum_over-swap f xs ys = sum_over-append f xs ys ∙ (laws.sum_comm _ _ ∙ sym (sum_over-append f ys xs))
+  -- a term on both sides may be taken away
+  less_term : (x y z : E) → IsTrue (R.member x) → IsTrue (R.member y) → R.sum x z ≡ R.sum y z → x ≡ y
+  less_term x y z in_x in_y e =
+      sym (back x in_x) ∙ ap (λ w. R.sum w (R.negative z)) e ∙ back y in_y
+    where
+      back : (w : E) → IsTrue (R.member w) → R.sum (R.sum w z) (R.negative z) ≡ w
+      back w m = laws.sum_assoc w z (R.negative z) ∙ ap (R.sum w) (laws.sum-negative z) ∙ laws.sum-zero w m
+
+  -- (a + c) + b = (b + c) + a
+  ends_swap : (a b c : E) → R.sum (R.sum a c) b ≡ R.sum (R.sum b c) a
+  ends_swap a b c =
+      laws.sum_assoc a c b ∙ ap (R.sum a) (laws.sum_comm c b) ∙ laws.sum_comm a (R.sum b c)
+
+  -- one item put in the place of another
+  sum_over-set : {A : Type 0} (f : A → E) (xs : List A) (i : ℕ) (v d : A) → i < length xs → R.sum (sum_over R f (set xs i v)) (f (get_or xs i d)) ≡ R.sum (sum_over R f xs) (f v)
+  sum_over-set f [] i v d lt = absurd (omega arith)
+  sum_over-set f (x ∷ xs) zero v d lt = ends_swap (f v) (f x) (sum_over R f xs)
+  sum_over-set f (x ∷ xs) (suc i) v d lt =
+      laws.sum_assoc (f x) (sum_over R f (set xs i v)) (f (get_or xs i d))
+      ∙ ap (R.sum (f x)) (sum_over-set f xs i v d (omega arith)) ∙ sym (laws.sum_assoc (f x) (sum_over R f xs) (f v))
+
+  -- two items exchanged
+  sum_over-swap : {A : Type 0} (f : A → E) (xs : List A) (i j : ℕ) → i < length xs → j < length xs → sum_over R f (swap xs i j) ≡ sum_over R f xs
+  sum_over-swap f [] i j li lj = absurd (omega arith)
+  sum_over-swap {A} f (x ∷ rest) i j li lj =
+      let xs : List A = x ∷ rest in
+      let once : List A = set xs i (get_or xs j x) in
+      let there : get_or once j x ≡ get_or xs j x = kept xs i j x li in
+      let first = sum_over-set f xs i (get_or xs j x) x li in
+      let second = sum_over-set f once j (get_or xs i x) x (omega (arith, length-set xs i (get_or xs j x))) in
+      let same : R.sum (sum_over R f (set once j (get_or xs i x))) (f (get_or xs j x)) ≡ R.sum (sum_over R f xs) (f (get_or xs j x)) =
+      ap (λ w. R.sum (sum_over R f (set once j (get_or xs i x))) (f w)) (sym there) ∙ second ∙ first in
+      ap (sum_over R f) (sym (swap_is xs i j x li lj)) ∙ less_term _ _ (f (get_or xs j x)) (sum_over_is f _) (sum_over_is f xs) same
+    where
+      kept : {A : Type 0} (xs : List A) (i j : ℕ) (d : A) → i < length xs → get_or (set xs i (get_or xs j d)) j d ≡ get_or xs j d
+      kept xs i j d li =
+          elim (cases_eq j i) [
+            | inl e ↦ ap (λ n. get_or (set xs i (get_or xs j d)) n d) e ∙ get_or-set_same xs i (get_or xs j d) d li
+            | inr ne ↦ get_or-set_other xs i j (get_or xs j d) d ne
+          ]
+
+  -- the order of the items is free
+  pub sum_over-order : (A : Type 0) → OrderIsFree A R
+  sum_over-order A = record {
+    reordered = λ f xs ys. IsPermutation-keeps xs (λ l. sum_over R f l ≡ sum_over R f xs) refl (λ l i j li lj h. sum_over-swap f l i j li lj ∙ h) ys;
+    pieces = λ f xs ys. sum_over-append f xs ys;
+  }

@@ -1,5 +1,6 @@
 -- The laws of sums that later proofs cite.
 use Rattle.std.specs.Prelude.{◌≡◌, ℕ, List, ◌++◌}
+use Rattle.std.specs.List.Sorted.{IsPermutation}
 use Rattle.ring_laws.specs.Ring.{Ring}
 use Rattle.ring_laws.specs.Sums.{total, sum_over}
 
@@ -12,6 +13,7 @@ SumsExchange {E} r =
 abbrev pub FactorsDistribute : {E : Type 0} → Ring E → Type 0
 FactorsDistribute {E} r = (n : ℕ) (x : E) (f : ℕ → E) → r.product x (total r n f) ≡ total r n (λ t. r.product x (f t))
 
--- The order of two pieces of a list doesn't change its sum.
-abbrev pub OrderIsFree : {E : Type 0} → Ring E → Type 0
-OrderIsFree {E} r = (f : ℕ → E) (xs ys : List ℕ) → sum_over r f (xs ++ ys) ≡ sum_over r f (ys ++ xs)
+-- A list of items of a type has the same sum in every order, and the sum over two pieces is that of their sums.
+pub record OrderIsFree (A : Type 0) {E : Type 0} (r : Ring E) : Type 0 where
+  pub reordered : (f : A → E) (xs ys : List A) → IsPermutation xs ys → sum_over r f ys ≡ sum_over r f xs
+  pub pieces : (f : A → E) (xs ys : List A) → sum_over r f (xs ++ ys) ≡ r.sum (sum_over r f xs) (sum_over r f ys)

@@ -130,3 +130,6 @@ pub fn is_zero<R: StarRing>(ring: &R, x: &R::Elem) -> bool
 {
     ring.same(x, &ring.zero())
 }
+
+#[cfg(test)]
+mod tests;

@@ -1,9 +1,12 @@
-use Rattle.std.proofs.Common.{◌≡◌, ℕ, ◌++◌, ◌-◌, length}
+use Rattle.std.proofs.Common.{◌≡◌, ℕ, ◌<◌, ◌++◌, ◌-◌, length}
 use Rattle.symbol_table.specs.Index.{v_index}
 use Rattle.category_text.specs.Named.{seen}
 use Rattle.category_text.specs.Canonical.{counting}
-use Rattle.category_text.specs.Writing.{texts, behind_text}
+use Rattle.category_text.specs.Writing.{texts, behind_text, BehindNumber}
 use Rattle.category_text.proofs.writing.write_f_rows.Given as goal
 
 abbrev pub invariant-loop-c : goal.invariant-loop-c
-invariant-loop-c l = l.text.items ++ texts (λ (k : ℕ). behind_text (seen l.named) (v_index l.a l.b k)) (counting l.c (length l.named.names - l.c)) ≡ l.fn.text.items ++ texts (λ (k : ℕ). behind_text (seen l.named) (v_index l.a l.b k)) (counting 0 (length l.named.names))
+invariant-loop-c l = record {
+  text : l.text.items ++ texts (λ (k : ℕ). behind_text (seen l.named) (v_index l.a l.b k)) (counting l.c (length l.named.names - l.c)) ≡ l.fn.text.items ++ texts (λ (k : ℕ). behind_text (seen l.named) (v_index l.a l.b k)) (counting 0 (length l.named.names));
+  numbers : (k : ℕ) → k < l.c → BehindNumber (seen l.named) (v_index l.a l.b k);
+}

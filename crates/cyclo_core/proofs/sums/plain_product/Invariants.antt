@@ -2,7 +2,7 @@ use Rattle.std.proofs.Common.{◌≡◌, ℕ, ◌<◌, ◌≤◌, ◌^◌, ◌-�
 use Rattle.std.specs.Prelude.{pos}
 use Rattle.poly_core.specs.Table.{at}
 use Rattle.cyclo_core.specs.Ratio.{product_at, product_size}
-use Rattle.cyclo_core.proofs.sums.product.Given as goal
+use Rattle.cyclo_core.proofs.sums.plain_product.Given as goal
 
 abbrev pub invariant-loop-j : goal.invariant-loop-j
 invariant-loop-j l = record {

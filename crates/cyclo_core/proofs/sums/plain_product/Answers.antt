@@ -6,7 +6,7 @@ use mir.Syntax.{w128}
 use Rattle.poly_core.specs.Table.{at}
 use Rattle.poly_core.proofs.Filling.{more}
 use Rattle.cyclo_core.specs.Ratio.{product_at}
-use Rattle.cyclo_core.proofs.sums.product.Goals as goal
+use Rattle.cyclo_core.proofs.sums.plain_product.Goals as goal
 
 pub loop-j-preserved : goal.loop-j-preserved
 loop-j-preserved c =

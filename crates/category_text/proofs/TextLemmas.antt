@@ -1,0 +1,74 @@
+-- Categories with one text are the same, and the same category has one text.
+use Rattle.std.proofs.Common.{◌≡◌, ℕ, List, [], ◌∷◌, ◌++◌, Bool, ◌&&◌, ◌==◌, not, map, filter, refl, sym, subst, ◌∙◌, Result, Ok, Err, codes}
+use Rattle.std.specs.Prelude.{IsOkAnd}
+use Rattle.std.specs.Fmt.{decimal}
+use Rattle.line_text.specs.Spelling.{spelled}
+use Rattle.cyclo_core.specs.Ratio.{Ratio}
+use Rattle.cyclo_text.specs.NumberWords.{spelled_number}
+use Rattle.symbol_table.specs.Symbols.{f_admissible}
+use Rattle.symbol_table.specs.declared.index.FIndex.{FIndex}
+use Rattle.symbol_table.specs.declared.index.VIndex.{VIndex}
+use Rattle.category_text.specs.declared.kind.VertexKind.{VertexKind}
+use Rattle.category_text.specs.declared.kind.VertexKind.TheVariants.{OnR, OnW, OnV}
+use Rattle.category_text.specs.Named.{NamedSymbols}
+use Rattle.category_text.specs.Reading.{Fault, category_of}
+use Rattle.category_text.specs.Canonical.{vertices, sixes, name_of, is_one, kind_word, f_words, f_value, vertex_value, canonical}
+use Rattle.category_text.specs.Again.{SameSymbols, AllReadAgain, AllShort, OneText, SameText}
+use Rattle.category_text.proofs.AgainLemmas.{read_again, short_text}
+
+pub all_read_again : AllReadAgain
+all_read_again x said = read_again x said
+
+pub all_short : AllShort
+all_short x said = short_text x said
+
+-- what is the same as a third
+joined : (x y z : NamedSymbols) → SameSymbols x z → SameSymbols y z → SameSymbols x y
+joined x y z p q = record {
+  root = p.root ∙ sym q.root;
+  names = p.names ∙ sym q.names;
+  count = p.count ∙ sym q.count;
+  fuse = λ a b c. p.fuse a b c ∙ sym (q.fuse a b c);
+  f = λ at. p.f at ∙ sym (q.f at);
+  vertex = λ kind at. p.vertex kind at ∙ sym (q.vertex kind at);
+}
+
+both_read : (x y : NamedSymbols) (r : Result NamedSymbols Fault) → IsOkAnd r (SameSymbols x) → IsOkAnd r (SameSymbols y) → SameSymbols x y
+both_read x y (Ok z) p q = joined x y z p q
+both_read x y (Err fault) p q = absurd p
+
+pub one_text : OneText
+one_text x y x_said y_said same =
+    both_read x y (category_of (canonical y)) (subst (λ text. IsOkAnd (category_of text) (SameSymbols x)) same (read_again x x_said)) (read_again y y_said)
+
+-- The text by what it looks at: the root, the names, the triples and the values.
+module _ (root : ℕ) (names : List (List ℕ)) (count : ℕ) (fuse : ℕ → ℕ → ℕ → Bool) (f : FIndex → Ratio) (vertex : VertexKind → VIndex → Ratio) where
+  abbrev fuse_lines_by : List (List (List ℕ))
+  fuse_lines_by =
+      map (λ (at : VIndex). codes "fuse" ∷ name_of names at.a ∷ name_of names at.b ∷ name_of names at.c ∷ [])
+      (filter (λ (at : VIndex). not (at.a == 0) && (not (at.b == 0) && fuse at.a at.b at.c)) (vertices count))
+
+  abbrev f_lines_by : List (List (List ℕ))
+  f_lines_by =
+      map (λ (at : FIndex). f_words names at (f at))
+      (filter (λ (at : FIndex). f_admissible fuse at.a at.b at.c at.d at.e at.f && not (is_one root (f at))) (sixes count))
+
+  abbrev vertex_lines_by : VertexKind → List (List (List ℕ))
+  vertex_lines_by kind =
+      map (λ (at : VIndex). kind_word kind ∷ name_of names at.a ∷ name_of names at.b ∷ name_of names at.c ∷ spelled_number (vertex kind at) ∷ [])
+      (filter (λ (at : VIndex). fuse at.a at.b at.c && not (is_one root (vertex kind at))) (vertices count))
+
+  abbrev text_by : List ℕ
+  text_by =
+      spelled (((codes "category" ∷ codes "1" ∷ []) ∷ (codes "root" ∷ decimal root ∷ []) ∷ (codes "labels" ∷ names) ∷ [])
+      ++ (fuse_lines_by ++ (f_lines_by ++ (vertex_lines_by OnR ++ (vertex_lines_by OnW ++ vertex_lines_by OnV)))))
+
+by_parts : (x : NamedSymbols) → canonical x ≡ text_by x.root x.names x.given.count x.given.fuse (f_value x) (vertex_value x)
+unfolding canonical
+by_parts x = refl
+
+pub same_text : SameText
+same_text x y same =
+    by_parts x
+    ∙ (λ t. text_by (same.root t) (same.names t) (same.count t) (λ a b c. same.fuse a b c t) (λ at. same.f at t) (λ kind at. same.vertex kind at t))
+    ∙ sym (by_parts y)

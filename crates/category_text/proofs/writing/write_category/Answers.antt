@@ -1,0 +1,10 @@
+use Rattle.category_text.specs.Named.{seen}
+use Rattle.category_text.proofs.AgainLemmas.{read_again, short_text}
+use Rattle.category_text.proofs.WritingLemmas.{where_ok}
+use Rattle.category_text.proofs.writing.write_category.Goals as goal
+
+pub returns-clause-again : goal.returns-clause-again
+returns-clause-again c = where_ok c.extend_from_slice.result (read_again (seen c.args.named.now) c.in_ok-text.ensures.said)
+
+pub returns-clause-short : goal.returns-clause-short
+returns-clause-short c = where_ok c.extend_from_slice.result (short_text (seen c.args.named.now) c.in_ok-text.ensures.said)

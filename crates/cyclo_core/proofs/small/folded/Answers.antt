@@ -1,0 +1,29 @@
+use Rattle.std.proofs.Common.{rules, ap, ◌∙◌, sym, refl, arith}
+use Rattle.poly_core.specs.Table.{at}
+use Rattle.cyclo_core.specs.Convolution.{weight, column}
+use Rattle.cyclo_core.specs.Sums.{int_sum}
+use Rattle.cyclo_core.proofs.SmallLemmas.{heads_are, next_sum}
+use Rattle.cyclo_core.proofs.small.folded.Goals as goal
+
+pub loop-k-init : goal.loop-k-init
+loop-k-init c =
+    let N = c.args.powers.now in
+    let phi = c.places-phi.ensures.value in
+    let low = c.head-out.ensures.value in
+    let high = c.head-out.ensures.rest in
+    let small = c.head-out.ensures.small _ c.requires in
+    record {
+      value = λ j lt. heads_are N c.args.c.now c.head-out.result (λ i below. low i (omega (arith, phi))) (λ i le. high i (omega (arith, phi))) j ∙ ap (λ n. int_sum n (weight (at c.args.c.now) (column N j))) (sym phi);
+      small = λ i. omega (arith, small i);
+      len = search rules;
+    }
+
+pub loop-k-preserved : goal.loop-k-preserved
+loop-k-preserved c =
+    let inv = c.loop-k.invariant in
+    let size = c.add_power.ensures.size in
+    record {
+      value = λ j lt. next_sum _ _ _ (weight (at c.args.c.now) (column c.args.powers.now j)) c.loop-k.k (c.add_power.ensures.value j lt) (inv.value j lt) refl;
+      small = λ i. omega (arith, size i, inv.small i);
+      len = search rules;
+    }

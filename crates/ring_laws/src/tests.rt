@@ -1,0 +1,68 @@
+use super::*;
+use std::test::Fail;
+
+const MOST: i128 = i128::MAX;
+
+fn int(x: i128) -> Result<Int, Fail> {
+    Ok(Int::new(x).ok_or("refused")?)
+}
+
+#[test]
+fn numbers_of_128_bits_but_the_least(rt: HostRuntime) {
+    assert!(rt; Int::new(i128::MIN).is_none());
+    for x in [-MOST, -1, 0, 1, MOST] {
+        assert_eq!(rt; Int::new(x).map(|n| n.get()), Some(x));
+    }
+}
+
+#[test]
+fn zero_and_one(rt: HostRuntime) {
+    assert_eq!(rt; Whole.zero().get(), 0);
+    assert_eq!(rt; Whole.one().get(), 1);
+    assert!(rt; is_zero(&Whole, &Whole.zero()));
+    assert!(rt; !is_zero(&Whole, &Whole.one()));
+}
+
+#[test]
+fn sums_and_products_of_two(rt: HostRuntime) -> Result<(), Fail> {
+    let rows = [
+        (7, -3, Ok(4), Ok(-21)),
+        (-7, -3, Ok(-10), Ok(21)),
+        (MOST, 0, Ok(MOST), Ok(0)),
+        (MOST - 1, 1, Ok(MOST), Ok(MOST - 1)),
+        (MOST, 1, Err(Overflow), Ok(MOST)),
+        (MOST, -1, Err(Overflow), Ok(-MOST)),
+        (MOST, 2, Err(Overflow), Err(Overflow)),
+    ];
+    for (x, y, sum, product) in rows {
+        let (x, y) = (int(x)?, int(y)?);
+        assert_eq!(rt; Whole.add(&x, &y).map(|z| z.get()), sum);
+        assert_eq!(rt; Whole.mul(&x, &y).map(|z| z.get()), product);
+    }
+    Ok(())
+}
+
+#[test]
+fn one_number_alone(rt: HostRuntime) -> Result<(), Fail> {
+    let x = int(MOST)?;
+    assert_eq!(rt; Whole.neg(&x).get(), -MOST);
+    assert_eq!(rt; Whole.conj(&x).map(|z| z.get()), Ok(MOST));
+    assert!(rt; Whole.same(&x, &Whole.copy(&x)));
+    assert!(rt; !Whole.same(&x, &Whole.neg(&x)));
+    Ok(())
+}
+
+#[test]
+fn a_product_on_top_of_a_sum(rt: HostRuntime) -> Result<(), Fail> {
+    let rows = [
+        (5, 6, 7, Ok(47)),
+        (5, MOST, 2, Err(Overflow)),
+        (1, MOST, 1, Err(Overflow)),
+        (0, MOST, 1, Ok(MOST)),
+    ];
+    for (sum, x, y, answer) in rows {
+        let (sum, x, y) = (int(sum)?, int(x)?, int(y)?);
+        assert_eq!(rt; add_product(&Whole, &sum, &x, &y).map(|z| z.get()), answer);
+    }
+    Ok(())
+}
