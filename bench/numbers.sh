@@ -1,7 +1,8 @@
 #!/usr/bin/env bash
-# Times products and sums of cyclotomic numbers with small dense numerators over 1, at the roots 60, 16 and 5,
-# in nanoseconds of processor time for one, and the same products by FLINT (Debian: libflint-dev, libantic-dev;
-# left out where it isn't there) and by the plain double sum in C++. All run on one processor.
+# Times products and sums of cyclotomic numbers with dense numerators over 1, at the roots 60, 16 and 5, in
+# nanoseconds of processor time for one, and the same by FLINT (Debian: libflint-dev, libantic-dev; left out
+# where it isn't there) and by the plain double sum in C++. Numerators are below 10, or 2^25 times as large.
+# All run on one processor.
 # The first run proves and builds the program, which takes a few minutes. Usage: bench/numbers.sh
 set -eu
 here=$(dirname "$(realpath "$0")")
@@ -48,6 +49,8 @@ for root in 60 16 5; do
   row "product at root $root" 2000000 "$folder/ours" product $root
   [ -x "$folder/flint" ] && row "product at root $root, FLINT" 500000 "$folder/flint" product $root
   row "product at root $root, plain C++ in 128 bits" 200000 "$folder/plain" product $root
+  row "large product at root $root" 200000 "$folder/ours" large $root
+  [ -x "$folder/flint" ] && row "large product at root $root, FLINT" 500000 "$folder/flint" large $root
   row "sum at root $root" 4000000 "$folder/ours" sum $root
   [ -x "$folder/flint" ] && row "sum at root $root, FLINT" 4000000 "$folder/flint" sum $root
 done

@@ -1,4 +1,5 @@
 pub mod DigitLemmas
+pub mod LengthLemmas
 pub mod PieceLemmas
 pub mod ReadBack
 pub mod ReadLemmas

@@ -67,11 +67,13 @@ fn spelling(alloc: Global, number: &Number, denominator: &i128) -> Result<Vec<u8
 /// Appends the canonical spelling of a number: its parts up to the last that isn't zero, or the one part `0`
 /// for zero, and `/` with the denominator exactly where that isn't 1.
 ///
-/// Only want of memory refuses it, and `out` is then unchanged. Every ring of which the number is a member
-/// reads the same number again.
+/// The spelling has at most 695 bytes: sixteen parts of 40, fifteen commas, `/` and 39 digits. Only want of
+/// memory refuses it, and `out` is then unchanged. Every ring of which the number is a member reads the same
+/// number again.
 pub fn write_number(alloc: Global, n: &Number, out: &mut Vec<u8>) -> Result<(), AllocError>
     ensures written { OnOk result (out.new.items ≡ out.old.items ++ spelled_number n.now) }
     ensures unchanged { OnErr result (out.new.items ≡ out.old.items) }
+    ensures short { length (spelled_number n.now) ≤ 695 }
     ensures read_back { (root : ℕ) → IsTrue (is_accepted root) → IsTrue ((ring_at root).member n.now) → number_of root (spelled_number n.now) ≡ Ok n.now }
 {
     let denominator = n.denominator();
