@@ -6,30 +6,16 @@ use Rattle.comb_laws.proofs.OwnLemmas.{start_is_own}
 use Rattle.comb_laws.proofs.FirstFactor.{first_factor, outcomes_same}
 use Rattle.comb_laws.proofs.laws.left_comb_start.Goals as goal
 
-pub returns-clause-start : goal.returns-clause-start
-returns-clause-start g c =
-    let draft = c.args.category.now in
-    let ring = g.R.StarRing.ring draft.ring in
-    let laws = g.met.R.StarRing.laws draft.ring in
-    let rules : AreRules draft.rules = subst (λ (rules : Fusion). AreRules rules) c.rules.ensures c.count-count.ensures.rules in
-    let s = draft_symbols ring g.R.StarRing.held draft in
-    start_is_own s laws (is_unital ring g.R.StarRing.held laws draft rules c.draft-lawful.ensures.lawful)
-
-pub returns-clause-weight : goal.returns-clause-weight
-returns-clause-weight g c =
-    let draft = c.args.category.now in
-    let ring = g.R.StarRing.ring draft.ring in
-    let laws = g.met.R.StarRing.laws draft.ring in
-    let rules : AreRules draft.rules = subst (λ (rules : Fusion). AreRules rules) c.rules.ensures c.count-count.ensures.rules in
-    let s = draft_symbols ring g.R.StarRing.held draft in
-    first_factor s laws (is_unital ring g.R.StarRing.held laws draft rules c.draft-lawful.ensures.lawful)
-
-pub returns-clause-outcomes : goal.returns-clause-outcomes
-returns-clause-outcomes g c =
+pub returns : goal.returns
+returns g c =
     let draft = c.args.category.now in
     let ring = g.R.StarRing.ring draft.ring in
     let laws = g.met.R.StarRing.laws draft.ring in
     let rules : AreRules draft.rules = subst (λ (rules : Fusion). AreRules rules) c.rules.ensures c.count-count.ensures.rules in
     let s = draft_symbols ring g.R.StarRing.held draft in
     let unital : IsUnital s = is_unital ring g.R.StarRing.held laws draft rules c.draft-lawful.ensures.lawful in
-    outcomes_same s laws unital (start_is_own s laws unital)
+    record {
+      start = start_is_own s laws unital;
+      weight = first_factor s laws unital;
+      outcomes = outcomes_same s laws unital (start_is_own s laws unital);
+    }
