@@ -10,7 +10,7 @@
 //! - *event*: an index with a false equation, or with an item that doesn't fit (`law_events`,
 //!   `specs/First.antt`).
 //!
-//! Source: Kitaev 2006, Appendix E.3; Wang, CBMS 112, section 4.1.
+//! Source: Kitaev 2006, Appendix E; Wang, CBMS 112, chapter 4.
 #![tactic(auto)]
 
 ghost use Rattle.std.specs.Prelude.{All, IsOk, OnOk};
