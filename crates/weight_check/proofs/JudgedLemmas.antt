@@ -6,7 +6,7 @@ use Rattle.std.proofs.lemmas.List.Elements.{All-cons, All-nil, All-from_recursio
 use Rattle.ring_laws.specs.Ring.{Ring, Held, RingLaws}
 use Rattle.ring_laws.specs.Sums.{total}
 use Rattle.ring_laws.specs.Stated.{product_at, conjugate_at, add_product_at}
-use Rattle.symbol_table.specs.Symbols.{Symbols, Given, symbols_of, f_of, h_of, f_admissible}
+use Rattle.symbol_table.specs.Symbols.{Symbols, Given, symbols_of}
 use Rattle.symbol_table.specs.Laws.{Equation, Same, Free, Holds, LawHolds, equation_of, identity_at, where_so, norm_r_says, inverse_f_says, inverse_h_says}
 use Rattle.symbol_table.specs.declared.law.Law.{Law}
 use Rattle.symbol_table.specs.declared.law.Law.TheVariants.{UnitF, UnitR, UnitW, RealW, InverseW, NormR, DeriveH, DeriveS, InverseF, InverseH, Rigid}
@@ -14,7 +14,7 @@ use Rattle.symbol_table.specs.declared.law.Kind.{Kind}
 use Rattle.symbol_table.specs.declared.law.Kind.TheVariants.{Fails, Overflow}
 use Rattle.law_events.specs.Stated.{product3_at}
 use Rattle.law_events.specs.Sides.{judged, evaluated, verdict, first_of, norm_r, norm_r_left, inverse_f, inverse_h, h_stated, s_stated, inverse_f_left, inverse_f_step, inverse_h_left, inverse_h_step}
-use Rattle.law_events.specs.Verdicts.{IsIndex, IsJudged, JudgesRight}
+use Rattle.law_events.specs.Verdicts.{JudgesRight}
 use Rattle.law_events.proofs.Firsts.{no_verdict}
 use Rattle.law_events.proofs.Values.{Evaluates, given_is, then_is, product_is, conjugate_is, product3_is, add_product_is, same_where_none, never_fails, step_is, steps_are}
 use Rattle.weight_check.specs.Items.{rigid_f}
