@@ -2,23 +2,32 @@
 use Rattle.std.proofs.Common.{◌≡◌, ◌≢◌, ℕ, ◌<◌, Bool, true, false, ◌&&◌, ◌||◌, ◌==◌, List, [], ◌∷◌, Option, Some, None, refl, sym, ap, ◌∙◌, true≢false}
 use Rattle.std.specs.Prelude.{if◌then◌else◌, IsTrue, All, slice_index}
 use Rattle.std.proofs.lemmas.Option.{none-some}
-use Rattle.std.proofs.lemmas.List.Elements.{All-cons, All-nil, All-from_recursion}
+use Rattle.std.proofs.lemmas.List.Elements.{All-cons, All-nil, All-weaker}
+use Rattle.std.proofs.lemmas.List.Sums.{AllPass-from_list_all}
 use Rattle.ring_laws.specs.Ring.{Ring, Held, RingLaws}
 use Rattle.ring_laws.specs.Sums.{total}
 use Rattle.ring_laws.specs.Stated.{product_at, conjugate_at, add_product_at}
-use Rattle.symbol_table.specs.Symbols.{Symbols, Given, symbols_of, f_of, h_of, f_admissible}
-use Rattle.symbol_table.specs.Laws.{Equation, Same, Free, Holds, LawHolds, equation_of, identity_at, where_so, norm_r_says, inverse_f_says, inverse_h_says}
+use Rattle.symbol_table.specs.Symbols.{Symbols, Given, symbols_of}
+use Rattle.symbol_table.specs.Laws.{Equation, Same, Free, Holds, LawHolds, equation_of, identity_at, unit_f_says, unit_says, where_so, norm_r_says, inverse_f_says, inverse_h_says}
 use Rattle.symbol_table.specs.declared.law.Law.{Law}
-use Rattle.symbol_table.specs.declared.law.Law.TheVariants.{UnitF, UnitR, UnitW, RealW, InverseW, NormR, DeriveH, DeriveS, InverseF, InverseH, Rigid}
+use Rattle.symbol_table.specs.declared.law.Law.TheVariants.{UnitF, UnitR, UnitW, RealW, InverseW, NormR, DeriveH, DeriveS, InverseF, InverseH, Rigid, Pentagon, HexagonOne, HexagonTwo}
 use Rattle.symbol_table.specs.declared.law.Kind.{Kind}
 use Rattle.symbol_table.specs.declared.law.Kind.TheVariants.{Fails, Overflow}
 use Rattle.law_events.specs.Stated.{product3_at}
-use Rattle.law_events.specs.Sides.{judged, evaluated, verdict, first_of, norm_r, norm_r_left, inverse_f, inverse_h, h_stated, s_stated, inverse_f_left, inverse_f_step, inverse_h_left, inverse_h_step}
-use Rattle.law_events.specs.Verdicts.{IsIndex, IsJudged, JudgesRight}
+use Rattle.law_events.specs.Sides.{judged, evaluated, verdict, first_of, unit_f, unit_vertex, norm_r, norm_r_left, inverse_f, inverse_h, h_stated, s_stated, inverse_f_left, inverse_f_step, inverse_h_left, inverse_h_step}
+use Rattle.law_events.specs.Verdicts.{JudgesRight}
 use Rattle.law_events.proofs.Firsts.{no_verdict}
 use Rattle.law_events.proofs.Values.{Evaluates, given_is, then_is, product_is, conjugate_is, product3_is, add_product_is, same_where_none, never_fails, step_is, steps_are}
 use Rattle.weight_check.specs.Items.{rigid_f}
 use Rattle.weight_check.specs.Order.{before_rigid}
+
+-- the laws of two sides that this crate checks, and those of none
+abbrev is_judged : Law → Bool
+is_judged Rigid = false
+is_judged Pentagon = false
+is_judged HexagonOne = false
+is_judged HexagonTwo = false
+is_judged law = true
 
 apart : Some Overflow ≡ Some Fails → ⊥
 apart e = cc
@@ -94,15 +103,13 @@ module _ {E : Type 0} (ring : Ring E) (held : Held E) (laws : RingLaws ring held
   judged_by : (law : Law) → ((i : List ℕ) → IsRight ring held laws (verdict c law i) (equation_of c law i)) → JudgesRight c law
   judged_by law right i is = let here = right i in record { true_where_none = here.true_where_none; never_fails = here.never }
 
-  unit_f_judged : JudgesRight c UnitF
-  unit_f_judged = judged_by UnitF (λ i.
-      let value = c.f (slice_index i 0) (slice_index i 1) (slice_index i 2) (slice_index i 3) (slice_index i 4) (slice_index i 5) in
-      where_right ring held laws (slice_index i 0 == 0 || (slice_index i 1 == 0 || slice_index i 2 == 0)) (judged held (Some value) (Some ring.one)) (Same value ring.one)
-      (same_right ring held laws (Some value) (Some ring.one) value ring.one (given_is value) (given_is ring.one)))
+  unit_f_right : (a b k d e f : ℕ) → IsRight ring held laws (unit_f c a b k d e f) (unit_f_says c a b k d e f)
+  unit_f_right a b k d e f =
+      where_right ring held laws (a == 0 || (b == 0 || k == 0)) (judged held (Some (c.f a b k d e f)) (Some ring.one)) (Same (c.f a b k d e f) ring.one)
+      (same_right ring held laws (Some (c.f a b k d e f)) (Some ring.one) (c.f a b k d e f) ring.one (given_is (c.f a b k d e f)) (given_is ring.one))
 
   -- a symbol of a vertex that is 1 where a label is the unit
-  unit_right : (symbol : ℕ → ℕ → ℕ → E) (a b k : ℕ)
-      → IsRight ring held laws (if a == 0 || b == 0 then judged held (Some (symbol a b k)) (Some ring.one) else None) (where_so (a == 0 || b == 0) (Same (symbol a b k) ring.one))
+  unit_right : (symbol : ℕ → ℕ → ℕ → E) (a b k : ℕ) → IsRight ring held laws (unit_vertex c symbol a b k) (unit_says c symbol a b k)
   unit_right symbol a b k =
       where_right ring held laws (a == 0 || b == 0) (judged held (Some (symbol a b k)) (Some ring.one)) (Same (symbol a b k) ring.one)
       (same_right ring held laws (Some (symbol a b k)) (Some ring.one) (symbol a b k) ring.one (given_is (symbol a b k)) (given_is ring.one))
@@ -128,40 +135,27 @@ module _ {E : Type 0} (ring : Ring E) (held : Held E) (laws : RingLaws ring held
       same_right ring held laws (inverse_h_left c a b k d f q) (Some (identity_at c f q)) (total ring g.count (λ e. ring.product (c.h a b k d f e) (c.f a b k d e q))) (identity_at c f q)
       (inverse_h_sum a b k d f q) (given_is (identity_at c f q))
 
+  right_of : (law : Law) → is_judged law ≡ true → (i : List ℕ) → IsRight ring held laws (verdict c law i) (equation_of c law i)
+  right_of UnitF is i = unit_f_right (slice_index i 0) (slice_index i 1) (slice_index i 2) (slice_index i 3) (slice_index i 4) (slice_index i 5)
+  right_of UnitR is i = unit_right c.r (slice_index i 0) (slice_index i 1) (slice_index i 2)
+  right_of UnitW is i = unit_right c.w (slice_index i 0) (slice_index i 1) (slice_index i 2)
+  right_of RealW is i = real_right (c.w (slice_index i 0) (slice_index i 1) (slice_index i 2))
+  right_of InverseW is i = inverse_right (c.w (slice_index i 0) (slice_index i 1) (slice_index i 2)) (c.v (slice_index i 0) (slice_index i 1) (slice_index i 2))
+  right_of NormR is i = norm_r_right (slice_index i 0) (slice_index i 1) (slice_index i 2)
+  right_of DeriveH is i = free_right ring held laws (h_stated c (slice_index i 0) (slice_index i 1) (slice_index i 2) (slice_index i 3) (slice_index i 4) (slice_index i 5))
+  right_of DeriveS is i = free_right ring held laws (s_stated c (slice_index i 0) (slice_index i 1) (slice_index i 2))
+  right_of InverseF is i = inverse_f_right (slice_index i 0) (slice_index i 1) (slice_index i 2) (slice_index i 3) (slice_index i 4) (slice_index i 5)
+  right_of InverseH is i = inverse_h_right (slice_index i 0) (slice_index i 1) (slice_index i 2) (slice_index i 3) (slice_index i 4) (slice_index i 5)
+  right_of Rigid is i = absurd (true≢false (sym is))
+  right_of Pentagon is i = absurd (true≢false (sym is))
+  right_of HexagonOne is i = absurd (true≢false (sym is))
+  right_of HexagonTwo is i = absurd (true≢false (sym is))
+
   -- the weight laws but the last are judged right
   pub judged_right : All (λ law. JudgesRight c law) before_rigid
   judged_right =
-      All-from_recursion (λ law. JudgesRight c law) before_rigid (
-        unit_f_judged,
-        (
-          judged_by UnitR (λ i. unit_right c.r (slice_index i 0) (slice_index i 1) (slice_index i 2)),
-          (
-            judged_by UnitW (λ i. unit_right c.w (slice_index i 0) (slice_index i 1) (slice_index i 2)),
-            (
-              judged_by RealW (λ i. real_right (c.w (slice_index i 0) (slice_index i 1) (slice_index i 2))),
-              (
-                judged_by InverseW (λ i. inverse_right (c.w (slice_index i 0) (slice_index i 1) (slice_index i 2)) (c.v (slice_index i 0) (slice_index i 1) (slice_index i 2))),
-                (
-                  judged_by NormR (λ i. norm_r_right (slice_index i 0) (slice_index i 1) (slice_index i 2)),
-                  (
-                    judged_by DeriveH (λ i. free_right ring held laws (h_stated c (slice_index i 0) (slice_index i 1) (slice_index i 2) (slice_index i 3) (slice_index i 4) (slice_index i 5))),
-                    (
-                      judged_by DeriveS (λ i. free_right ring held laws (s_stated c (slice_index i 0) (slice_index i 1) (slice_index i 2))),
-                      (
-                        judged_by InverseF (λ i. inverse_f_right (slice_index i 0) (slice_index i 1) (slice_index i 2) (slice_index i 3) (slice_index i 4) (slice_index i 5)),
-                        (
-                          judged_by InverseH (λ i. inverse_h_right (slice_index i 0) (slice_index i 1) (slice_index i 2) (slice_index i 3) (slice_index i 4) (slice_index i 5)),
-                          tt,
-                        ),
-                      ),
-                    ),
-                  ),
-                ),
-              ),
-            ),
-          ),
-        ),
-      )
+      All-weaker (λ law. is_judged law ≡ true) (λ law. JudgesRight c law) (λ law is. judged_by law (right_of law is)) before_rigid
+      (AllPass-from_list_all is_judged before_rigid refl)
 
   -- a value that isn't said to be 0 isn't 0
   not_zero : (x : E) → (if held.is_zero x then Some Fails else None) ≡ None → x ≢ ring.zero

@@ -1,18 +1,30 @@
 -- The first event of the weight laws, tried on small rules with values that were chosen by hand.
 use Rattle.std.specs.Prelude.{◌≡◌, ℕ, List, [], ◌∷◌, ℤ, pos, negsuc, neg_ℤ, Option, Some, None, refl}
+use Rattle.std.proofs.Common.{sym, ◌∙◌}
+use Rattle.std.proofs.lemmas.Option.{none-some}
+use Rattle.std.proofs.lemmas.List.Elements.{All-append, All-cons, All-nil}
 use Rattle.ring_laws.specs.Ring.{Ring}
 use Rattle.ring_laws.specs.Whole.{whole_ring, whole_held, most}
+use Rattle.ring_laws.specs.WholeLaws.{whole_laws}
 use Rattle.fusion_rules.specs.Fusion.{Fusion, with_triple}
 use Rattle.fusion_rules.proofs.Worked.{fib, two_labels, three_labels}
 use Rattle.symbol_table.specs.Index.{f_index, v_index}
-use Rattle.symbol_table.specs.Draft.{DraftValue}
+use Rattle.symbol_table.specs.Symbols.{Symbols}
+use Rattle.symbol_table.specs.Draft.{DraftValue, given}
+use Rattle.symbol_table.specs.Laws.{LawHolds}
 use Rattle.symbol_table.specs.Category.{draft_symbols}
 use Rattle.symbol_table.specs.declared.law.Law.{Law}
 use Rattle.symbol_table.specs.declared.law.Law.TheVariants.{UnitF, UnitR, UnitW, RealW, InverseW, NormR, InverseF, Rigid}
 use Rattle.symbol_table.specs.declared.law.Kind.{Kind}
 use Rattle.symbol_table.specs.declared.law.Kind.TheVariants.{Fails, Overflow}
 use Rattle.symbol_table.specs.declared.law.Event.{Event}
-use Rattle.law_events.specs.Sides.{first_in, weight_laws}
+use Rattle.law_events.specs.Sides.{first_in, first_of, weight_laws}
+use Rattle.law_events.specs.Verdicts.{Fits}
+use Rattle.law_events.proofs.Firsts.{no_verdict, or_none}
+use Rattle.weight_check.specs.Answers.{AllFit, AllHold}
+use Rattle.weight_check.specs.Order.{before_rigid}
+use Rattle.weight_check.proofs.AnswerLemmas.{all_hold}
+use Rattle.weight_check.proofs.JudgedLemmas.{judged_right, rigid_holds}
 
 abbrev weight_event : Ring ℤ → DraftValue ℕ ℤ → Option Event
 weight_event ring draft = first_in (draft_symbols ring whole_held draft) weight_laws
@@ -70,3 +82,24 @@ off_diagonal_event = refl
 -- F has the rows 0 1 and 1 0
 pub rigid_event : weight_event whole_ring (record plain { rules = fib; set_f = (f_index 1 1 1 1 0 0, pos 0) ∷ (f_index 1 1 1 1 1 1, pos 0) ∷ [] }) ≡ event Fails Rigid (1 ∷ [])
 rigid_event = refl
+
+-- What is asked of a draft that no law is named for: the two labels meet it.
+abbrev plain_symbols : Symbols ℤ
+plain_symbols = draft_symbols whole_ring whole_held plain
+
+fits_where_none : {E : Type 0} (c : Symbols E) (law : Law) → first_of c law ≡ None → Fits c law
+fits_where_none c law none i is overflow = none-some Overflow (sym (no_verdict c law none i is) ∙ overflow)
+
+all_fit : {E : Type 0} (c : Symbols E) (laws : List Law) → first_in c laws ≡ None → AllFit c laws
+all_fit c [] none = All-nil (λ law. Fits c law)
+all_fit c (law ∷ laws) none =
+    let both = or_none (first_of c law) (first_in c laws) none in
+    All-cons (λ law. Fits c law) law laws (fits_where_none c law both.0) (all_fit c laws both.1)
+
+pub plain_fits : AllFit plain_symbols weight_laws
+plain_fits = all_fit plain_symbols weight_laws no_event
+
+pub plain_holds : AllHold plain_symbols weight_laws
+plain_holds =
+    All-append (λ law. LawHolds plain_symbols law) before_rigid (Rigid ∷ []) (all_hold plain_symbols before_rigid (judged_right whole_ring whole_held whole_laws (given plain)) refl)
+    (All-cons (λ law. LawHolds plain_symbols law) Rigid [] (rigid_holds whole_ring whole_held whole_laws (given plain) refl) (All-nil (λ law. LawHolds plain_symbols law)))

@@ -1,5 +1,5 @@
 -- What checks of laws answer.
-use Rattle.std.specs.Prelude.{◌≡◌, List, All, Option, Some, None, Result, Ok, Err}
+use Rattle.std.specs.Prelude.{◌≡◌, List, All, Option, None, Result, Ok, Err}
 use Rattle.symbol_table.specs.Symbols.{Symbols}
 use Rattle.symbol_table.specs.Laws.{LawHolds}
 use Rattle.symbol_table.specs.declared.law.Law.{Law}

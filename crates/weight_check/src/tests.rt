@@ -56,10 +56,11 @@ fn has_event(
 ) -> Result<bool, Fail> {
     draft.rules().check()?;
     match check(alloc, draft) {
+        Ok(_derived) => Ok(false),
+        Err(WeightFault::Memory) => Ok(false),
         Err(WeightFault::Law(event)) => Ok(
             event.kind == kind && event.law == law && event.index.as_slice() == index,
         ),
-        _ => Ok(false),
     }
 }
 
