@@ -108,3 +108,8 @@ module _ {S : Type 0} (files : S → Option Files) (faults : S → List ℕ → 
       stopped = λ next. loads.passed (λ t. judged (reader t) next) new (Err stop) (stops_here new stop (reader text.items) gives next);
       passed = tt;
     }
+
+-- what is said of one value holds of its equal
+pub retold : {S A : Type 0} (files : S → Option Files) (faults : S → List ℕ → ℕ) (old new : S) (work : A → Work) (x y : A) (result : Result (Vec ℕ Global) Stop)
+    → x ≡ y → Worked files faults old new (work x) result → Worked files faults old new (work y) result
+retold files faults old new work x y result e worked = subst (λ n. Worked files faults old new (work n) result) e worked

@@ -38,11 +38,13 @@ rows_of named plan =
     report_or named.names (outcomes_of (symbols_in named) plan.start (commands_of plan))
     (evaluation_of (symbols_in named) plan.start (commands_of plan))
 
--- The category of the first text; how many labels it has; what decides about it; the program of the second text; its rows.
+-- the program of the second text, and its rows in a category
+abbrev pub program_work : List ℕ → NamedSymbols → Work
+program_work program named = read_work (too_long ProgramText) (plan_of named) program (λ plan. judged (rows_of named plan) (λ report. Says (done report)))
+
+-- The category of the first text; how many labels it has; what decides about it; the program and its rows.
 unfoldable pub comb_work : List ℕ → List ℕ → Work
 comb_work category program =
     read_work (too_long Category) named_of category (λ named.
     judged (unless (count_line named.given.count)) (λ _.
-    judged (unless (category_verdict named)) (λ _.
-    read_work (too_long ProgramText) (plan_of named) program (λ plan.
-    judged (rows_of named plan) (λ report. Says (done report))))))
+    judged (unless (category_verdict named)) (λ _. program_work program named)))
