@@ -1,5 +1,5 @@
 -- What decides about a category, if anything does.
-use Rattle.std.specs.Prelude.{List, Option, Some, None, option_map, Result, Ok, Err}
+use Rattle.std.specs.Prelude.{Option, Some, None, option_map, Result, Ok, Err}
 use Rattle.std.specs.Option.{option_or}
 use Rattle.cyclo_core.specs.Ratio.{Ratio, held, ring_at}
 use Rattle.fusion_rules.specs.Check.{rules_fault}

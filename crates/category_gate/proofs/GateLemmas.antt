@@ -1,11 +1,9 @@
 -- The checks in their order make the gate.
-use Rattle.std.proofs.Common.{◌≡◌, ℕ, Bool, List, [], ◌∷◌, Option, Some, None, Result, Ok, Err, refl, sym, ap, ◌∙◌, true≢false, arith}
-use Rattle.std.specs.Prelude.{All, IsOk, IsTrue, ◌↔◌}
+use Rattle.std.proofs.Common.{◌≡◌, List, [], ◌∷◌, Some, None, Result, Ok, Err, refl, ap, ◌∙◌, arith}
+use Rattle.std.specs.Prelude.{All, IsOk, ◌↔◌}
 use Rattle.std.specs.Option.{option_or}
-use Rattle.std.proofs.lemmas.List.Elements.{All-head, All-tail, All-cons, All-nil}
+use Rattle.std.proofs.lemmas.List.Elements.{All-cons, All-nil}
 use Rattle.fusion_rules.specs.Check.{RulesPass, rules_fault}
-use Rattle.fusion_rules.specs.First.{Answers}
-use Rattle.fusion_rules.specs.declared.rules.RulesFault.{RulesFault}
 use Rattle.symbol_table.specs.Symbols.{Symbols}
 use Rattle.symbol_table.specs.Laws.{IsLawful, LawHolds}
 use Rattle.symbol_table.specs.declared.law.Law.{Law}
@@ -18,7 +16,7 @@ use Rattle.derive_symbols.specs.declared.WeightFault.{WeightFault}
 use Rattle.derive_symbols.specs.declared.WeightFault.TheVariants as weights
 use Rattle.weight_check.specs.Answers.{NamesNoLaw}
 use Rattle.category_gate.specs.Faults.{of_weights}
-use Rattle.category_gate.specs.Gate.{Admits, IsFirst, IsMemory, EveryItemFits}
+use Rattle.category_gate.specs.Gate.{IsFirst, IsMemory, EveryItemFits}
 use Rattle.category_gate.specs.declared.GateFault.TheVariants as fault
 
 -- what holds of everything holds of each item
@@ -60,16 +58,18 @@ module _ {E : Type 0} (c : Symbols E) where
 
   -- an event of the pentagon, where no weight law has one
   pub pentagon_told : (event : Event) → rules_fault c.count c.fuse ≡ None → first_in c weight_laws ≡ None → first_of c Pentagon ≡ Some event → IsFirst c (fault.Law event)
-  pentagon_told event rules before told =
-      (rules,
-        ap (λ o. option_or o (option_or (first_of c Pentagon) (first_in c hexagon_laws))) before ∙ ap (λ o. option_or o (first_in c hexagon_laws)) told)
+  pentagon_told event rules before told = (
+    rules,
+    ap (λ o. option_or o (option_or (first_of c Pentagon) (first_in c hexagon_laws))) before ∙ ap (λ o. option_or o (first_in c hexagon_laws)) told,
+  )
 
   -- an event of the hexagons, where no law before them has one
   pub hexagon_told : (event : Event) → rules_fault c.count c.fuse ≡ None → first_in c weight_laws ≡ None → first_of c Pentagon ≡ None → first_in c hexagon_laws ≡ Some event
       → IsFirst c (fault.Law event)
-  hexagon_told event rules before pentagon told =
-      (rules,
-        ap (λ o. option_or o (option_or (first_of c Pentagon) (first_in c hexagon_laws))) before ∙ ap (λ o. option_or o (first_in c hexagon_laws)) pentagon ∙ told)
+  hexagon_told event rules before pentagon told = (
+    rules,
+    ap (λ o. option_or o (option_or (first_of c Pentagon) (first_in c hexagon_laws))) before ∙ ap (λ o. option_or o (first_in c hexagon_laws)) pentagon ∙ told,
+  )
 
   -- no law has an event
   pub nothing_told : first_in c weight_laws ≡ None → first_of c Pentagon ≡ None → first_in c hexagon_laws ≡ None → first_of_all c ≡ None

@@ -1,13 +1,10 @@
 -- What the gate answers of a draft.
-use Rattle.std.specs.Prelude.{◌≡◌, Option, Some, None, Result, Ok, Err, option_map}
-use Rattle.std.specs.Option.{option_or}
+use Rattle.std.specs.Prelude.{◌≡◌, Some, None, Result, Ok, Err}
 use Rattle.fusion_rules.specs.Check.{rules_fault}
 use Rattle.symbol_table.specs.Symbols.{Symbols}
 use Rattle.symbol_table.specs.declared.law.Law.{Law}
-use Rattle.symbol_table.specs.declared.law.Event.{Event}
 use Rattle.law_events.specs.Sides.{first_of_all}
 use Rattle.law_events.specs.Verdicts.{Fits}
-use Rattle.fusion_rules.specs.declared.rules.RulesFault.{RulesFault}
 use Rattle.category_gate.specs.declared.GateFault.{GateFault}
 use Rattle.category_gate.specs.declared.GateFault.TheVariants as fault
 

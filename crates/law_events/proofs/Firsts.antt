@@ -5,15 +5,15 @@ use Rattle.std.specs.Option.{option_or}
 use Rattle.std.proofs.lemmas.Option.{none-some}
 use Rattle.std.proofs.Math.Nat.{eq-or-lt_of_le}
 use Rattle.std.proofs.lemmas.List.Elements.{All-head, All-tail, All-cons, All-nil}
-use Rattle.fusion_rules.specs.First.{first_from, first_below}
+use Rattle.fusion_rules.specs.First.{first_from}
 use Rattle.symbol_table.specs.Symbols.{Symbols}
-use Rattle.symbol_table.specs.Laws.{form_of, fuse_all, LawHolds, Holds, equation_of}
+use Rattle.symbol_table.specs.Laws.{form_of, fuse_all, LawHolds}
 use Rattle.symbol_table.specs.declared.law.Law.{Law}
 use Rattle.symbol_table.specs.declared.law.Kind.{Kind}
 use Rattle.symbol_table.specs.declared.law.Kind.TheVariants.{Fails, Overflow}
 use Rattle.law_events.specs.First.{first_over, event_at, event_of}
-use Rattle.law_events.specs.Sides.{first_of, first_in, verdict}
-use Rattle.law_events.specs.Verdicts.{IsIndex, Fits, IsJudged, JudgesRight}
+use Rattle.law_events.specs.Sides.{first_of, verdict}
+use Rattle.law_events.specs.Verdicts.{IsIndex, Fits, JudgesRight}
 
 pub or_none : {E : Type 0} (x y : Option E) → option_or x y ≡ None → (x ≡ None) × (y ≡ None)
 or_none None y h = (refl, h)

@@ -1,6 +1,5 @@
 -- The first event in the order of the labels.
 use Rattle.std.specs.Prelude.{ℕ, zero, suc, Bool, List, [], ◌∷◌, ◌++◌, true, ◌&&◌, nat_lt, length, if◌then◌else◌, Option, None, Some}
-use Rattle.std.specs.Option.{option_or}
 use Rattle.fusion_rules.specs.First.{first_below}
 use Rattle.symbol_table.specs.Laws.{form_of, fuses_at, fuse_all}
 use Rattle.symbol_table.specs.declared.law.Law.{Law}

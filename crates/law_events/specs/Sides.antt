@@ -2,9 +2,9 @@
 --
 -- Products are formed from the left, sums in label order from zero, over the labels at which all symbols are
 -- admissible; a conjugate is formed where it stands; the left side comes before the right one.
-use Rattle.std.specs.Prelude.{ℕ, Bool, ◌&&◌, ◌||◌, ◌==◌, List, [], ◌∷◌, Option, Some, None, if◌then◌else◌}
+use Rattle.std.specs.Prelude.{ℕ, ◌&&◌, ◌||◌, ◌==◌, List, [], ◌∷◌, Option, Some, None, if◌then◌else◌}
 use Rattle.std.specs.Option.{option_or}
-use Rattle.ring_laws.specs.Ring.{Ring, Held}
+use Rattle.ring_laws.specs.Ring.{Held}
 use Rattle.ring_laws.specs.Stated.{◌>>=◌, product_at, conjugate_at, add_product_at, steps}
 use Rattle.fusion_rules.specs.Check.{dual_of}
 use Rattle.symbol_table.specs.Symbols.{Symbols}

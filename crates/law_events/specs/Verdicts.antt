@@ -1,5 +1,5 @@
 -- When a law's verdicts are right, and when its items fit.
-use Rattle.std.specs.Prelude.{◌≡◌, ℕ, ◌<◌, List, All, length, true, Option, Some, None}
+use Rattle.std.specs.Prelude.{◌≡◌, ℕ, ◌<◌, List, All, length, true, Some, None}
 use Rattle.symbol_table.specs.Symbols.{Symbols}
 use Rattle.symbol_table.specs.Laws.{Holds, equation_of, form_of, fuse_all}
 use Rattle.symbol_table.specs.declared.law.Law.{Law}

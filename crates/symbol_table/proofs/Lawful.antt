@@ -1,17 +1,16 @@
 -- Symbols that are lawful: those of the unit alone, and those of the Fibonacci category.
-use Rattle.std.proofs.Common.{◌≡◌, ℕ, Bool, true, false, ◌&&◌, refl, sym, true≢false}
+use Rattle.std.proofs.Common.{◌≡◌, Bool, true, false, ◌&&◌, refl, sym, true≢false}
 use Rattle.std.specs.Prelude.{ℤ, IsTrue}
 use Rattle.ring_laws.specs.Whole.{whole_ring, whole_held, int_equal}
 use Rattle.ring_laws.specs.WholeLaws.{int_equal_is}
 use Rattle.fusion_rules.proofs.Worked.{one_label_passes}
 use Rattle.fusion_rules.proofs.PassLemmas.{no_fault_passes}
-use Rattle.symbol_table.specs.Symbols.{Symbols, symbols_of}
-use Rattle.symbol_table.specs.Draft.{given}
-use Rattle.symbol_table.specs.Laws.{IsLawful, LawHolds}
+use Rattle.symbol_table.specs.Symbols.{Symbols}
+use Rattle.symbol_table.specs.Laws.{IsLawful}
 use Rattle.symbol_table.specs.Category.{IsCategory, draft_symbols}
 use Rattle.symbol_table.specs.declared.law.Law.{Law}
 use Rattle.symbol_table.specs.declared.law.Law.TheVariants.{UnitF, UnitR, UnitW, RealW, InverseW, NormR, DeriveH, DeriveS, InverseF, InverseH, Rigid, Pentagon, HexagonOne, HexagonTwo}
-use Rattle.symbol_table.proofs.Fib.{Whole5, num, fib, ring5, held5, fuse5}
+use Rattle.symbol_table.proofs.Fib.{Whole5, num, fib, held5, fuse5}
 use Rattle.symbol_table.proofs.Tested.{is_lawful_at, tried_law}
 use Rattle.symbol_table.proofs.Worked.{unit_draft, unit_derived, unit_holds}
 

@@ -1,12 +1,11 @@
 -- Laws that hold since every index was tried.
-use Rattle.std.proofs.Common.{◌≡◌, ◌≢◌, ℕ, zero, suc, ◌+◌, ◌<◌, Bool, true, false, ◌&&◌, ◌||◌, not, List, [], ◌∷◌, ◌++◌, length, refl, sym, ap, ◌∙◌, subst, arith, append_assoc, append-nil, ◌⊎◌, inl, inr, true≢false}
-use Rattle.std.specs.Prelude.{All, IsTrue}
+use Rattle.std.proofs.Common.{◌≡◌, ℕ, zero, suc, ◌<◌, Bool, true, false, ◌&&◌, ◌||◌, not, List, [], ◌∷◌, ◌++◌, length, refl, sym, ap, ◌∙◌, arith, append_assoc, append-nil, inl, inr, true≢false}
+use Rattle.std.specs.Prelude.{All}
 use Rattle.std.proofs.lemmas.Bool.{cases_eq}
 use Rattle.std.proofs.lemmas.List.Elements.{All-head, All-tail}
 use Rattle.ring_laws.specs.Ring.{Ring, Held}
-use Rattle.fusion_rules.specs.Check.{RulesPass}
 use Rattle.symbol_table.specs.Symbols.{Symbols}
-use Rattle.symbol_table.specs.Laws.{Equation, Same, NotZero, Free, Holds, LawHolds, IsLawful, equation_of, form_of, fuse_all}
+use Rattle.symbol_table.specs.Laws.{Equation, Same, NotZero, Free, Holds, LawHolds, equation_of, form_of, fuse_all}
 use Rattle.symbol_table.specs.declared.law.Law.{Law}
 use Rattle.symbol_table.specs.declared.law.Law.TheVariants.{UnitF, UnitR, UnitW, RealW, InverseW, NormR, DeriveH, DeriveS, InverseF, InverseH, Rigid, Pentagon, HexagonOne, HexagonTwo}
 

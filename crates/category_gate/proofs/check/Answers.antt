@@ -1,6 +1,4 @@
-use Rattle.std.proofs.Common.{◌≡◌}
 use Rattle.std.proofs.lemmas.Result.{err_from_is_err_and}
-use Rattle.symbol_table.specs.Symbols.{Symbols}
 use Rattle.symbol_table.specs.Category.{draft_symbols}
 use Rattle.category_gate.proofs.GateLemmas.{weights_told, pentagon_told, hexagon_told, nothing_told, all_lawful, weights_complete, pentagon_complete, hexagon_complete, ok_says}
 use Rattle.category_gate.proofs.check.Goals as goal

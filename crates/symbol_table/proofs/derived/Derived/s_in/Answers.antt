@@ -1,4 +1,3 @@
-use Rattle.std.proofs.Common.{◌≡◌, true, sym, ◌∙◌}
 use Rattle.std.specs.Prelude.{IsTrue}
 use Rattle.symbol_table.specs.Draft.{given}
 use Rattle.symbol_table.proofs.MemberLemmas.{s_member, standing}
