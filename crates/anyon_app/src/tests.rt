@@ -31,6 +31,28 @@ const FIB_60_TAIL: &str = "r t t 1 0,0,0,0,0,0,-1\n\
     w t t 1 -1,0,0,0,1,0,1,0,0,0,0,0,0,0,-1\n\
     v t t 1 0,0,0,0,1,0,1,0,0,0,0,0,0,0,-1\n";
 
+// The second of two labels with a weight of 2^126.
+const LARGE_WEIGHT: &str = "w g g 1 85070591730234615865843651857942052864\n\
+    v g g 1 1/85070591730234615865843651857942052864\n";
+
+// Fibonacci in a gauge in which w(t,t,t) is 2^62.
+const LARGE_FIB: &str = "category 1\nroot 5\nlabels 1 t\nfuse t t 1\nfuse t t t\n\
+    f t t t t 1 1 -1,0,-1,-1\nf t t t t 1 t -1,0,-1,-1/4611686018427387904\n\
+    f t t t t t 1 4611686018427387904\nf t t t t t t 1,0,1,1\n";
+
+const LARGE_FIB_TAIL: &str = "r t t 1 0,0,0,1\nr t t t 1,1,1,1\nw t t 1 -1,0,-1,-1\n\
+    w t t t 4611686018427387904\nv t t 1 0,0,-1,-1\nv t t t 1/4611686018427387904\n";
+
+const LARGE_BRAIDS: &str = "braid 2 +\nbraid 3 -\nbraid 2 +\nbraid 1 +\nmeasure 3\n";
+
+// The Ising category.
+const ISING: &str = "category 1\nroot 16\nlabels 1 s p\nfuse s s 1\nfuse s s p\nfuse s p s\n\
+    fuse p s s\nfuse p p 1\nf s s s s 1 1 0,0,1,0,0,0,-1/2\nf s s s s 1 p 0,0,1,0,0,0,-1/2\n";
+
+const ISING_TAIL: &str = "f s s s s p 1 0,0,1,0,0,0,-1/2\nf s s s s p p 0,0,-1,0,0,0,1/2\n\
+    f s p s p s s -1\nf p s p s s s -1\nr s s 1 0,0,0,0,0,0,0,-1\nr s s p 0,0,0,1\n\
+    r s p s 0,0,0,0,-1\nr p s s 0,0,0,0,-1\nr p p 1 -1\n";
+
 // Left-combed starts of four strands.
 const T4: &str = "program 1\nstart (((t t):1 t):t t):1\n";
 
@@ -61,6 +83,16 @@ fn joined(alloc: Global, first: &str, second: &str) -> Result<Vec<u8>, AllocErro
     let mut text = Vec::from_slice(alloc, first.as_bytes())?;
     text.extend_from_slice(second.as_bytes())?;
     Ok(text)
+}
+
+// The first three lines of a category text.
+fn head(alloc: Global, root: &str, labels: &str) -> Result<String, AllocError> {
+    let mut head = String::from_str(alloc, "category 1\nroot ")?;
+    head.push_str(root)?;
+    head.push_str("\nlabels ")?;
+    head.push_str(labels)?;
+    head.push_str("\n")?;
+    Ok(head)
 }
 
 fn words(alloc: Global, line: &str) -> Result<Vec<String>, AllocError> {
@@ -124,18 +156,11 @@ fn rows_of_other_roots(rt: HostRuntime) -> Result<(), Fail> {
     let alloc = rt.alloc();
     for (category, symbols, start, commands, bytes) in [
         (
-            Z2,
-            "f g g g g 1 1 1/2\n",
-            G4,
-            "measure 2\n",
-            "total 1\noutcome 1 weight 1/16\n",
-        ),
-        (
-            "category 1\nroot 10\nlabels 1 g\nfuse g g 1\n",
-            "f g g g g 1 1 0,0,0,1\nr g g 1 -1,1,-1,1\nw g g 1 1,1\n",
+            "category 1\nroot 4\nlabels 1 g\nfuse g g 1\n",
+            "f g g g g 1 1 -1\nr g g 1 0,1\n",
             G4,
             "braid 2 +\nmeasure 2\n",
-            "total 1,2,1\noutcome 1 weight 20,15,20\n",
+            "total 1\noutcome 1 weight 1\n",
         ),
         (
             "category 1\nroot 60\nlabels 1 g\nfuse g g 1\n",
@@ -317,41 +342,157 @@ fn refused_programs(rt: HostRuntime) -> Result<(), Fail> {
     Ok(())
 }
 
+// Fibonacci in another gauge, where w(t,t,t) is 2^62; two labels of which the second has a weight of 2^126.
 #[test]
 fn limits(rt: HostRuntime) -> Result<(), Fail> {
     let alloc = rt.alloc();
-    for (symbols, commands, bytes) in [
+    for (texts, bytes) in [
         (
-            "f g g g g 1 1 170141183460469231731687303715884105727\nw g g 1 2\n",
-            "measure 2\n",
-            "limit overflow derive-h g g g g 1 1\n",
+            Texts(LARGE_FIB, LARGE_FIB_TAIL, T4, "measure 2\n"),
+            "limit overflow turn 2\n",
         ),
         (
-            "r g g 1 170141183460469231731687303715884105727\nw g g 1 2\n",
-            "measure 2\n",
-            "limit overflow derive-s g g 1\n",
+            Texts(LARGE_FIB, LARGE_FIB_TAIL, T4, LARGE_BRAIDS),
+            "limit overflow turn 6\n",
         ),
         (
-            "w g g 1 85070591730234615865843651857942052864\n\
-            v g g 1 1/85070591730234615865843651857942052864\n",
-            "measure 2\n",
+            Texts(Z2, LARGE_WEIGHT, G4, "measure 2\n"),
             "limit overflow turn 0\n",
-        ),
-        (
-            "f g g g g 1 1 9223372036854775808\nr g g 1 9223372036854775808\n",
-            "braid 2 +\nbraid 2 +\nmeasure 2\n",
-            "limit overflow turn 1\n",
         ),
     ] {
         check(
             &rt,
             alloc,
             "comb CAT PROG",
-            Texts(Z2, symbols, G4, commands),
+            texts,
             Status::Limit,
             bytes.as_bytes(),
         )?;
     }
+    for (symbols, bytes) in [
+        (
+            "f g g g g 1 1 170141183460469231731687303715884105727\n",
+            "limit overflow inverse-f g g g g 1 1\n",
+        ),
+        (
+            "f g g g g 1 1 170141183460469231731687303715884105727\nw g g 1 2\nv g g 1 1/2\n",
+            "limit overflow derive-h g g g g 1 1\n",
+        ),
+    ] {
+        for line in ["check CAT", "comb CAT PROG"] {
+            let texts = Texts(Z2, symbols, "", "");
+            check(&rt, alloc, line, texts, Status::Limit, bytes.as_bytes())?;
+        }
+    }
+    Ok(())
+}
+
+#[test]
+fn accepted(rt: HostRuntime) -> Result<(), Fail> {
+    let alloc = rt.alloc();
+    for (first, second, bytes) in [
+        (FIB, FIB_TAIL, "accepted root 5 labels 2\n"),
+        (ISING, ISING_TAIL, "accepted root 16 labels 3\n"),
+        (
+            "category 1\nroot 4\nlabels 1 g\nfuse g g 1\n",
+            "r g g 1 0,1\nf g g g g 1 1 -1\n",
+            "accepted root 4 labels 2\n",
+        ),
+        (Z2, LARGE_WEIGHT, "accepted root 1 labels 2\n"),
+        (LARGE_FIB, LARGE_FIB_TAIL, "accepted root 5 labels 2\n"),
+        (
+            "category 1\nroot 42\nlabels 1\n",
+            "",
+            "accepted root 42 labels 1\n",
+        ),
+    ] {
+        check(
+            &rt,
+            alloc,
+            "check CAT",
+            Texts(first, second, "", ""),
+            Status::Done,
+            bytes.as_bytes(),
+        )?;
+    }
+    Ok(())
+}
+
+// The first fault of a text, of the rules, or of the laws.
+#[test]
+fn refused_by_check(rt: HostRuntime) -> Result<(), Fail> {
+    let alloc = rt.alloc();
+    for (root, labels, symbols, bytes) in [
+        ("1", "1 g", "", "refused dual g\n"),
+        ("1", "1 a b", "fuse a b 1\n", "refused commutative a b 1\n"),
+        (
+            "1",
+            "1 g",
+            "fuse g g 1\nw g g 1 2\n",
+            "refused inverse-w g g 1\n",
+        ),
+        (
+            "4",
+            "1 g",
+            "fuse g g 1\nw g g 1 0,1\n",
+            "refused real-w g g 1\n",
+        ),
+        (
+            "1",
+            "1 g",
+            "fuse g g 1\nr g g 1 2\n",
+            "refused norm-r g g 1\n",
+        ),
+        (
+            "5",
+            "1 t",
+            "fuse t t 1\nfuse t t t\nf t t t t 1 1 0\nf t t t t t t 0\n",
+            "refused rigid t\n",
+        ),
+        (
+            "3",
+            "1 g",
+            "fuse g g 1\nf g g g g 1 1 0,1\n",
+            "refused pentagon g g g g 1 g 1 1 g\n",
+        ),
+        (
+            "4",
+            "1 g",
+            "fuse g g 1\nr g g 1 0,1\n",
+            "refused hexagon-1 g g g g 1 1\n",
+        ),
+        // R is multiplicative in the second label alone.
+        (
+            "3",
+            "1 g h",
+            "fuse g g h\nfuse g h 1\nfuse h g 1\nfuse h h g\nr g g h 0,1\nr g h 1 -1,-1\n",
+            "refused hexagon-2 g g g 1 h h\n",
+        ),
+        (
+            "5",
+            "1 t",
+            "fuse 1 t t\n",
+            "refused category line 4 unit fuse\n",
+        ),
+    ] {
+        let head = head(alloc, root, labels)?;
+        check(
+            &rt,
+            alloc,
+            "check CAT",
+            Texts(head.as_str(), symbols, "", ""),
+            Status::Refused,
+            bytes.as_bytes(),
+        )?;
+    }
+    check(
+        &rt,
+        alloc,
+        "check CAT",
+        Texts(FIB, "r t t", "", ""),
+        Status::Refused,
+        b"refused category line 9 short\n",
+    )?;
     Ok(())
 }
 
@@ -362,6 +503,9 @@ fn words_and_names(rt: HostRuntime) -> Result<(), Fail> {
     let texts = Texts(FIB, FIB_TAIL, T4, "measure 2\n");
     for (line, status) in [
         ("", Status::Usage),
+        ("check", Status::Usage),
+        ("check CAT PROG", Status::Usage),
+        ("check none", Status::ReadFault),
         ("format", Status::Usage),
         ("format CAT PROG", Status::Usage),
         ("comb CAT", Status::Usage),
@@ -386,6 +530,7 @@ fn words_and_names(rt: HostRuntime) -> Result<(), Fail> {
 fn faults(rt: HostRuntime) -> Result<(), Fail> {
     let alloc = rt.alloc();
     fail_each(&rt, alloc, "comb CAT PROG", ROWS.as_bytes())?;
+    fail_each(&rt, alloc, "check CAT", b"accepted root 5 labels 2\n")?;
     fail_each(&rt, alloc, "format CAT", &joined(alloc, FIB, FIB_TAIL)?)?;
     Ok(())
 }
