@@ -93,3 +93,6 @@ pub fn admit<R: StarRing>(alloc: Global, draft: Draft<R>) -> Result<Category<R>,
     let derived = check(alloc, &draft)?;
     Ok(Category::seal(draft, derived))
 }
+
+#[cfg(test)]
+mod tests;
