@@ -13,7 +13,7 @@ use Rattle.category_text.specs.declared.kind.VertexKind.TheVariants.{OnR, OnW, O
 use Rattle.category_text.specs.Named.{NamedSymbols}
 use Rattle.category_text.specs.Reading.{Fault, category_of}
 use Rattle.category_text.specs.Canonical.{vertices, sixes, name_of, is_one, kind_word, f_words, f_value, vertex_value, canonical}
-use Rattle.category_text.specs.Again.{SameSymbols, AllReadAgain, AllShort, OneText, SameText}
+use Rattle.category_text.specs.Again.{SameSymbols, AllReadAgain, AllSettled, AllShort, OneText, SameText}
 use Rattle.category_text.proofs.AgainLemmas.{read_again, short_text}
 
 pub all_read_again : AllReadAgain
@@ -72,3 +72,10 @@ same_text x y same =
     by_parts x
     ∙ (λ t. text_by (same.root t) (same.names t) (same.count t) (λ a b c. same.fuse a b c t) (λ at. same.f at t) (λ kind at. same.vertex kind at t))
     ∙ sym (by_parts y)
+
+settled_by : (x : NamedSymbols) (r : Result NamedSymbols Fault) → IsOkAnd r (SameSymbols x) → IsOkAnd r (λ y. canonical y ≡ canonical x)
+settled_by x (Ok y) same = sym (same_text x y same)
+settled_by x (Err fault) same = same
+
+pub all_settled : AllSettled
+all_settled x said = settled_by x (category_of (canonical x)) (read_again x said)

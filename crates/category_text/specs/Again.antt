@@ -58,3 +58,7 @@ OneText = (x y : NamedSymbols) → IsSaid x → IsSaid y → canonical x ≡ can
 -- the same category has one text
 abbrev pub SameText : Type 0
 SameText = (x y : NamedSymbols) → SameSymbols x y → canonical x ≡ canonical y
+
+-- what is read from a canonical text has that text
+abbrev pub AllSettled : Type 0
+AllSettled = (x : NamedSymbols) → IsSaid x → IsOkAnd (category_of (canonical x)) (λ y. canonical y ≡ canonical x)

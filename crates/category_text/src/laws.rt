@@ -1,5 +1,5 @@
 ghost use Rattle.category_text.specs.Spelled.{SpelledAgain};
-ghost use Rattle.category_text.specs.Again.{AllReadAgain, AllShort, OneText, SameText};
+ghost use Rattle.category_text.specs.Again.{AllReadAgain, AllSettled, AllShort, OneText, SameText};
 
 /// A spelled text is read again: the head, new triples, and values of new admissible indices, each line with one space
 /// between words. What it says is exactly these.
@@ -9,10 +9,11 @@ pub fn spelled_categories()
 
 /// What can be said is read again from its canonical text, to the same category: the root, the names, the triples, and
 /// F, R, w and v at all labels; the text is short enough for the reader. Two that have one text are the same, and the same
-/// has one text.
+/// has one text; so what is written of what was read from a canonical text is that text.
 pub fn canonical_texts()
     ensures read_again { AllReadAgain }
     ensures short { AllShort }
     ensures one_text { OneText }
     ensures same_text { SameText }
+    ensures settled { AllSettled }
 {}

@@ -1,5 +1,5 @@
-use Rattle.category_text.proofs.TextLemmas.{all_read_again, all_short, one_text, same_text}
+use Rattle.category_text.proofs.TextLemmas.{all_read_again, all_settled, all_short, one_text, same_text}
 use Rattle.category_text.proofs.laws.canonical_texts.Goals as goal
 
 pub returns : goal.returns
-returns c = record { read_again = all_read_again; short = all_short; one_text = one_text; same_text = same_text }
+returns c = record { read_again = all_read_again; short = all_short; one_text = one_text; same_text = same_text; settled = all_settled }
