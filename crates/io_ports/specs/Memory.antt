@@ -1,5 +1,5 @@
 -- Shelves and a sink in memory, as their callers see them.
-use Rattle.std.specs.Prelude.{ℕ, ◌-◌, List, [], ◌∷◌, Bool, Some, None, String, Vec, if◌then◌else◌, is_some, length, nat_eq}
+use Rattle.std.specs.Prelude.{ℕ, ◌-◌, min, List, [], ◌∷◌, Bool, Some, None, String, Vec, if◌then◌else◌, is_some, length, nat_eq}
 use Rattle.std.specs.List.{list_any}
 use Rattle.std.specs.declared.alloc.Global.{Global}
 use Rattle.std.specs.Str.{bytes_eq}
@@ -19,6 +19,15 @@ files_of (file ∷ files) name = if bytes_eq file.0 name then Some file.1 else f
 -- the call of this number is one of those that fail
 abbrev pub fails_at : List ℕ → ℕ → Bool
 fails_at fail call = list_any (λ k. nat_eq k call) fail
+
+-- how many bytes a call gives of a text from an offset on: all that are left, at most so many a call and so many as the
+-- buffer holds
+abbrev pub piece_length : List ℕ → ℕ → ℕ → ℕ → ℕ
+piece_length text at step room = min (min (length text - at) step) room
+
+-- how many of some bytes a call takes: all of them, at most so many a call and so many as there is room for
+abbrev pub taken_length : List ℕ → ℕ → ℕ → ℕ
+taken_length bytes step room = min (min (length bytes) step) room
 
 -- one more fault where a call failed
 abbrev pub faults_after : Bool → ℕ → ℕ

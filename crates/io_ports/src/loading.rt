@@ -19,8 +19,7 @@ pub enum LoadFault {
 // The most bytes that one read asks for.
 const PIECE: usize = 4096;
 
-/// The whole text of this name up to its end, if it has at most `limit` bytes. The shelf gives at
-/// most `limit + 1` bytes of it.
+/// The whole text of this name up to its end, if it has at most `limit` bytes.
 ///
 /// `Failed` comes only where the shelf's count of this name rose in this call, or stands at its
 /// last value. `TooLong` comes, where the shelf tells its map, only where the text has more than

@@ -1,8 +1,8 @@
 // Shelves and a sink in memory, which fail where they are told to.
-ghost use Rattle.std.specs.Prelude.{◌≡◌, ◌++◌, nat_lt, if◌then◌else◌, ◌≤◌, ◌<◌, ◌+◌, ◌-◌, ◌^◌, ◌&&◌, min, length, drop, take, List, ℕ, Option, Some, None, [], IfOk, OnErr, IsOkAnd, MatchOption, not, is_some, is_ok, nat_eq};
+ghost use Rattle.std.specs.Prelude.{◌≡◌, ◌++◌, nat_lt, if◌then◌else◌, ◌≤◌, ◌<◌, ◌+◌, ◌-◌, ◌^◌, ◌&&◌, min, length, drop, take, List, ℕ, Option, Some, None, unwrap_or, [], IfOk, OnErr, IsOkAnd, MatchOption, not, is_some, is_ok, nat_eq};
 ghost use Rattle.std.specs.Io.KnownBytes.{Appends};
 ghost use Rattle.io_ports.specs.Ports.{Rose, FillsFront, GivesPiece, PieceOf, TakesSome, count_up};
-ghost use Rattle.io_ports.specs.Memory.{HeldFiles, SureFiles, HeldBytes, contents_of, files_of, fails_at, faults_after, sure_faults, room_left};
+ghost use Rattle.io_ports.specs.Memory.{HeldFiles, SureFiles, HeldBytes, contents_of, files_of, fails_at, faults_after, piece_length, sure_faults, room_left, taken_length};
 
 use crate::{Failed, Shelf, Sink};
 use std::alloc::{AllocError, Global};
@@ -11,8 +11,8 @@ use std::marker::Model;
 /// Files in memory, some of whose reads fail.
 ///
 /// It tells its map, in which a name has its first text. The k-th call, counted from 1, fails where
-/// k is in `fail` or there is no such name. A call gives as much as there is, at most `step` bytes.
-/// The number of failed calls is the count of every name. Both numbers stand still at `u64::MAX`.
+/// k is in `fail` or there is no such name. A call gives as much as there is and `buf` holds, at most
+/// `step` bytes. The number of failed calls is the count of every name. Both numbers stand still at `u64::MAX`.
 #[derive(Drop)]
 pub struct MemShelf {
     files: Vec<(String, Vec<u8>)>,
@@ -79,7 +79,7 @@ impl Shelf for MemShelf {
           failed = faults_after (is_ok result) self.old.failed;
         } }
         ensures fails { is_ok result ≡ (not (fails_at self.old.fail self.new.calls) && is_some (files_of self.old.files name.now)) }
-        ensures step { IfOk result (λ n. n ≤ self.old.step) }
+        ensures gives { IfOk result (λ n. n ≡ piece_length (unwrap_or (files_of self.old.files name.now) []) at self.old.step (length buf.old)) }
     {
         self.calls = self.calls.saturating_add(1);
         let fails = self.fail.contains(&self.calls);
@@ -95,8 +95,8 @@ impl Shelf for MemShelf {
 
 /// Files in memory, whose reads fail only where there is no such name.
 ///
-/// It tells its map, in which a name has its first text. A call gives as much as there is, at most
-/// `step` bytes. The count of a name that it holds is always 0. The number of failed calls, which
+/// It tells its map, in which a name has its first text. A call gives as much as there is and `buf`
+/// holds, at most `step` bytes. The count of a name that it holds is always 0. The number of failed calls, which
 /// stands still at `u64::MAX`, is the count of every other name.
 #[derive(Drop)]
 pub struct SureShelf {
@@ -144,7 +144,7 @@ impl Shelf for SureShelf {
 
         ensures counted { self.new ≡ record self.old { failed = faults_after (is_ok result) self.old.failed } }
         ensures fails { is_ok result ≡ is_some (files_of self.old.files name.now) }
-        ensures step { IfOk result (λ n. n ≤ self.old.step) }
+        ensures gives { IfOk result (λ n. n ≡ piece_length (unwrap_or (files_of self.old.files name.now) []) at self.old.step (length buf.old)) }
     {
         match text_of(&self.files, name) {
             Some(text) => Ok(take_piece(text, at, self.step, buf)),
@@ -159,8 +159,8 @@ impl Shelf for SureShelf {
 /// A sink in memory with room for so many bytes in all, some of whose calls fail.
 ///
 /// It tells what it took. A call with no bytes answers `Ok(0)` and isn't counted. Of the other
-/// calls the k-th, counted from 1, fails where k is in `fail` or no room is left. A call takes at
-/// most `step` bytes and never more than the room that is left. The number of failed calls is its
+/// calls the k-th, counted from 1, fails where k is in `fail` or no room is left. A call takes
+/// as much as there is and there is room for, at most `step` bytes. The number of failed calls is its
 /// count. Both numbers stand still at `u64::MAX`.
 #[derive(Drop)]
 pub struct MemSink {
@@ -246,7 +246,7 @@ impl Sink for MemSink {
         } }
         ensures fails { 0 < length bytes.now
             → is_ok result ≡ (not (fails_at self.old.fail self.new.calls) && nat_lt 0 (room_left self.old)) }
-        ensures step { IfOk result (λ n. n ≤ min self.old.step (room_left self.old)) }
+        ensures takes { IfOk result (λ n. n ≡ taken_length bytes.now self.old.step (room_left self.old)) }
     {
         if bytes.is_empty() {
             return Ok(0);
@@ -281,7 +281,7 @@ fn take_piece(text: &[u8], at: u64, step: usize, buf: &mut [u8]) -> usize
     requires { 0 < step }
     ensures front { FillsFront buf.old buf.new result }
     ensures piece { PieceOf text.now at buf.new result }
-    ensures step { result ≤ step }
+    ensures gives { result ≡ piece_length text.now at step (length buf.old) }
 {
     let at = at as usize;
     if at >= text.len() {

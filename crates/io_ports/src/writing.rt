@@ -1,5 +1,5 @@
 // All bytes into a sink.
-ghost use Rattle.std.specs.Prelude.{◌≡◌, ◌≤◌, List, ℕ, take, OnOk, OnErr};
+ghost use Rattle.std.specs.Prelude.{◌≡◌, ◌≤◌, [], List, ℕ, take, OnOk, OnErr};
 ghost use Rattle.std.specs.Io.KnownBytes.{Appends};
 ghost use Rattle.io_ports.specs.Ports.{Rose};
 
@@ -18,6 +18,7 @@ pub fn put_all<W: Sink>(sink: &mut W, bytes: &[u8]) -> Result<(), SinkFailed>
     ensures prefix { OnErr result ((n : ℕ) × Appends (W.taken sink.old) (W.taken sink.new) (take n bytes.now)) }
     ensures failed { OnErr result (Rose (W.faults sink.old) (W.faults sink.new)) }
     ensures later { W.faults sink.old ≤ W.faults sink.new }
+    ensures none { bytes.now ≡ [] → sink.new ≡ sink.old }
 {
     let mut done = 0;
     while done < bytes.len() {

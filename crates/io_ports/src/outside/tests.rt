@@ -1,6 +1,7 @@
 // The files and the output of the machine, of which no clause tells the content.
 use super::{FileShelf, OutSink};
 use crate::{Failed, Shelf, Sink, load, put_all};
+use std::cell::RefCell;
 use std::fmt::Display;
 use std::test::Fail;
 use std::{fs, io};
@@ -52,6 +53,54 @@ impl Print for Stuck {
         }
         Ok(0)
     }
+}
+
+// An output that takes two bytes a call, and keeps them.
+#[derive(Drop)]
+struct Narrow {
+    taken: RefCell<Vec<u8>>,
+}
+
+impl Print for Narrow {
+    fn print<D: Display + Drop>(&self, _value: D) -> io::Result<()> {
+        Ok(())
+    }
+
+    fn println<D: Display + Drop>(&self, _value: D) -> io::Result<()> {
+        Ok(())
+    }
+
+    fn write_all(&self, _bytes: &[u8]) -> io::Result<()> {
+        Err(io::Error::from(io::ErrorKind::BrokenPipe))
+    }
+
+    fn write_some(&self, bytes: &[u8]) -> io::Result<usize> {
+        let some = &bytes[..bytes.len().min(2)];
+        let Ok(mut taken) = self.taken.try_borrow_mut() else {
+            return Err(io::Error::from(io::ErrorKind::ResourceBusy));
+        };
+        if taken.extend_from_slice(some).is_err() {
+            return Err(io::Error::from(io::ErrorKind::OutOfMemory));
+        }
+        Ok(some.len())
+    }
+}
+
+// What is taken of a write is what it answers, so all bytes arrive once and in order.
+#[test]
+fn delivers_all(rt: HostRuntime) -> Result<(), Fail> {
+    let narrow = Narrow {
+        taken: RefCell::new(Vec::new(rt.alloc())),
+    };
+    let mut out = OutSink::new(&narrow);
+    assert_eq!(rt; out.write(b"braid"), Ok(2));
+    put_all(&mut out, b"aid 2 +\n")?;
+    assert_eq!(rt; out.faults, 0);
+    assert_eq!(rt;
+        narrow.taken.into_inner().as_slice(),
+        b"braid 2 +\n".as_slice()
+    );
+    Ok(())
 }
 
 #[test]
