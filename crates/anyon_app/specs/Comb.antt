@@ -9,7 +9,7 @@ use Rattle.comb_laws.specs.Plans.{Outcomes, outcomes_of}
 use Rattle.comb_laws.specs.Evaluated.{evaluation_of}
 use Rattle.anyon_app.specs.declared.texts.Kind.TheVariants.{Category, Program as ProgramText}
 use Rattle.anyon_app.specs.Replies.{Reply, done}
-use Rattle.anyon_app.specs.Refusals.{too_long, category_not_built, program_not_built, turn_overflow}
+use Rattle.anyon_app.specs.Refusals.{too_long, not_built, turn_overflow}
 use Rattle.anyon_app.specs.Report.{report_of}
 use Rattle.anyon_app.specs.Work.{Work, Says, read_work, judged}
 use Rattle.anyon_app.specs.Categories.{named_of}
@@ -17,12 +17,12 @@ use Rattle.anyon_app.specs.Verdicts.{category_verdict, symbols_in, unless}
 
 -- there aren't two labels
 abbrev pub count_line : ℕ → Option Reply
-count_line count = if count == 2 then None else Some category_not_built
+count_line count = if count == 2 then None else Some (not_built Category)
 
 -- the program of a text that is of the form
 abbrev pub plan_or : Option Program → Result Program Reply
 plan_or (Some plan) = Ok plan
-plan_or None = Err program_not_built
+plan_or None = Err (not_built ProgramText)
 
 abbrev pub plan_of : NamedSymbols → List ℕ → Result Program Reply
 plan_of named text = plan_or (comb_program_of named.names named.given.count named.given.fuse text)

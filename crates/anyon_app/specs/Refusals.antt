@@ -20,13 +20,22 @@ label_name names label = slice_index_or names label []
 abbrev pub label_names : List (List ℕ) → List ℕ → List (List ℕ)
 label_names names labels = map (label_name names) labels
 
--- a line of a category text that its grammar refuses
-abbrev pub category_line : ℕ → CategoryCause → Reply
-category_line line cause = refusal_of (codes "category" ∷ codes "line" ∷ decimal line ∷ category_cause cause ∷ [])
+-- the word for a text of a kind
+abbrev pub kind_word : text.Kind → List ℕ
+kind_word Category = codes "category"
+kind_word Program = codes "program"
 
--- a category that isn't treated
-abbrev pub category_not_built : Reply
-category_not_built = refusal_of (codes "not built" ∷ codes "category" ∷ [])
+-- a line of a text that its grammar refuses, with the words of its cause
+abbrev pub refused_line : text.Kind → ℕ → List ℕ → Reply
+refused_line kind line cause = refusal_of (kind_word kind ∷ codes "line" ∷ decimal line ∷ cause ∷ [])
+
+-- a line of a category text, with its cause
+abbrev pub category_line : ℕ → CategoryCause → Reply
+category_line line cause = refused_line Category line (category_cause cause)
+
+-- a text that isn't treated
+abbrev pub not_built : text.Kind → Reply
+not_built kind = refusal_of (codes "not built" ∷ kind_word kind ∷ [])
 
 -- fusion rules that aren't those of a fusion category
 abbrev pub rules_line : List (List ℕ) → RulesFault → Reply
@@ -46,14 +55,14 @@ event_reply Overflow words = limit_of (codes "overflow" ∷ words)
 abbrev pub event_line : List (List ℕ) → Event → Reply
 event_line names event = event_reply event.kind (event_words names event)
 
--- a program that isn't treated
-abbrev pub program_not_built : Reply
-program_not_built = refusal_of (codes "not built" ∷ codes "program" ∷ [])
+-- a text with more bytes than the limit
+abbrev pub too_long_line : text.Kind → Reply
+too_long_line kind = refusal_of (kind_word kind ∷ codes "too long" ∷ [])
 
--- a text with more bytes than the limit; such a program isn't treated
+-- the same, where such a program isn't treated
 abbrev pub too_long : text.Kind → Reply
-too_long Category = refusal_of (codes "category" ∷ codes "too long" ∷ [])
-too_long Program = program_not_built
+too_long Category = too_long_line Category
+too_long Program = not_built Program
 
 -- an item of a turn that doesn't fit
 abbrev pub turn_overflow : ℕ → Reply

@@ -12,7 +12,7 @@ ghost use Rattle.anyon_app.specs.Verdicts.{unless};
 
 use crate::categories::load_category;
 use crate::judge::{Admitted, judge};
-use crate::refusals::{category_not_built, program_not_built, turn_overflow};
+use crate::refusals::{not_built, turn_overflow};
 use crate::report::report;
 use crate::stop::Stop;
 use crate::texts::{Kind, text};
@@ -44,7 +44,7 @@ fn two_labels(alloc: Global, named: &Named) -> Result<(), Stop>
     ensures { Gives (λ _. tt) result (unless (count_line named.now.draft.rules.count)) }
 {
     if named.draft.rules().count() != 2 {
-        return Err(category_not_built(alloc));
+        return Err(not_built(alloc, Kind::Category));
     }
     Ok(())
 }
@@ -73,7 +73,7 @@ fn program(alloc: Global, admitted: &Admitted, text: &[u8]) -> Result<Plan, Stop
 {
     match read_comb_program(alloc, &admitted.names, admitted.category.rules(), text) {
         Ok(Some(plan)) => Ok(plan),
-        Ok(None) => Err(program_not_built(alloc)),
+        Ok(None) => Err(not_built(alloc, Kind::Program)),
         Err(_) => Err(Stop::OutOfMemory),
     }
 }

@@ -29,6 +29,3 @@ pub use laws::over_sure_shelf;
 pub use status::Status;
 use stop::Stop;
 pub use top::anyon;
-
-#[cfg(test)]
-mod tests;

@@ -1,7 +1,7 @@
 // The lines of refusals and limits.
 ghost use Rattle.std.specs.Prelude.{◌≡◌, ◌∷◌, IfOk};
 ghost use Rattle.anyon_app.specs.Stages.{StopsWith};
-ghost use Rattle.anyon_app.specs.Refusals.{category_line, category_not_built, event_line, event_words, label_name, program_not_built, rules_line, too_long, turn_overflow};
+ghost use Rattle.anyon_app.specs.Refusals.{category_line, event_line, event_words, label_name, not_built, refused_line, rules_line, too_long, turn_overflow};
 ghost use Rattle.anyon_app.specs.Lines.{line_of};
 
 use crate::causes::{category_words, law_name};
@@ -19,25 +19,32 @@ pub fn too_long(alloc: Global, kind: Kind) -> Stop
     ensures { StopsWith (too_long kind) result }
 {
     match kind {
-        Kind::Category => refusal(alloc, &["category", "too long"]),
-        Kind::Program => program_not_built(alloc),
+        Kind::Category => refusal(alloc, &[kind.word(), "too long"]),
+        Kind::Program => not_built(alloc, kind),
     }
+}
+
+/// The stop at a line of a text, with the words of its cause.
+fn refused_line(alloc: Global, kind: Kind, line: u32, cause: &str) -> Stop
+    ensures { StopsWith (refused_line kind line cause.now) result }
+{
+    let mut buffer = Buffer::new();
+    let line = buffer.format(line);
+    refusal(alloc, &[kind.word(), "line", line, cause])
 }
 
 /// The stop at a line of a category text.
 pub fn category_line(alloc: Global, line: u32, cause: CategoryCause) -> Stop
     ensures { StopsWith (category_line line cause) result }
 {
-    let mut buffer = Buffer::new();
-    let line = buffer.format(line);
-    refusal(alloc, &["category", "line", line, category_words(cause)])
+    refused_line(alloc, Kind::Category, line, category_words(cause))
 }
 
-/// The stop at a category that isn't treated.
-pub fn category_not_built(alloc: Global) -> Stop
-    ensures { StopsWith category_not_built result }
+/// The stop at a text that isn't treated.
+pub fn not_built(alloc: Global, kind: Kind) -> Stop
+    ensures { StopsWith (not_built kind) result }
 {
-    refusal(alloc, &["not built", "category"])
+    refusal(alloc, &["not built", kind.word()])
 }
 
 /// The stop at fusion rules that aren't those of a fusion category.
@@ -89,13 +96,6 @@ fn event_text(
     write_labels(names, event.index.as_slice(), &mut line)?;
     line.push(b'\n')?;
     Ok(line)
-}
-
-/// The stop at a program that isn't treated.
-pub fn program_not_built(alloc: Global) -> Stop
-    ensures { StopsWith program_not_built result }
-{
-    refusal(alloc, &["not built", "program"])
 }
 
 /// The stop at a turn an item of which doesn't fit.

@@ -2,7 +2,7 @@
 ghost use Rattle.std.specs.Prelude.{◌≡◌, ◌≤◌, IfOk, vec_len};
 ghost use Rattle.anyon_app.specs.Work.{text_limit, text_work};
 ghost use Rattle.anyon_app.specs.Stages.{Loads, Passes};
-ghost use Rattle.anyon_app.specs.Refusals.{too_long};
+ghost use Rattle.anyon_app.specs.Refusals.{kind_word, too_long};
 
 use crate::refusals::too_long;
 use crate::stop::Stop;
@@ -14,6 +14,18 @@ use std::alloc::Global;
 pub enum Kind {
     Category,
     Program,
+}
+
+impl Kind {
+    /// The word for such a text.
+    pub fn word(self) -> &'static str
+        ensures { result.now ≡ kind_word self }
+    {
+        match self {
+            Kind::Category => "category",
+            Kind::Program => "program",
+        }
+    }
 }
 
 // The most bytes of a text.

@@ -15,10 +15,11 @@ use std::alloc::Global;
 
 /// Does what the words of the command line say, the words after the program's name.
 ///
-/// `format CAT` reads the category text of this name and writes its canonical text. `comb CAT PROG`
-/// reads a category text and a program text, and writes the total and the rows of the program on
-/// left-combed paths. A text has at most 4,194,304 bytes. All other words are `Usage`. Whatever is
-/// written is built whole before its first byte is written.
+/// `check CAT` reads the category text of this name and judges its rules and laws. `format CAT` reads
+/// such a text and writes its canonical text. `comb CAT PROG` judges a category too, reads a program
+/// text, and writes the total and the rows of the program on left-combed paths. A text has at most
+/// 4,194,304 bytes. All other words are `Usage`. Whatever is written is built whole before its first
+/// byte is written.
 ///
 /// - `Done`, `Refused`, `Limit`: the whole reply was written.
 /// - `Usage`: exactly where the words have no listed form. Nothing is written.

@@ -1,6 +1,6 @@
 // Replies and faults over texts in memory. The expected lines are worked rows and those of an
 // independent program.
-use super::{Status, anyon};
+use anyon_app::{Status, anyon};
 use io_ports::{MemShelf, MemSink, SureShelf};
 use std::alloc::{AllocError, Global};
 use std::process::Abort;
@@ -11,6 +11,16 @@ const FIB: &str = "category 1\nroot 5\nlabels 1 t\nfuse t t 1\nfuse t t t\n\
     f t t t t 1 1 -1,0,-1,-1\nf t t t t 1 t -1,0,-1,-1\nf t t t t t t 1,0,1,1\n";
 
 const FIB_TAIL: &str = "r t t 1 0,0,0,1\nr t t t 1,1,1,1\nw t t 1 -1,0,-1,-1\nv t t 1 0,0,-1,-1\n";
+
+// The first lines of that category.
+const ROOT: &str = "category 1\nroot 5\n";
+
+const BARE: &str = "category 1\nroot 5\nlabels 1 t\n";
+
+const FUSING: &str = "category 1\nroot 5\nlabels 1 t\nfuse t t 1\nfuse t t t\n";
+
+// A part of 2^127.
+const PAST_MOST: &str = "r t t 1 170141183460469231731687303715884105728\n";
 
 // Two labels of which the second is its own dual.
 const Z2: &str = "category 1\nroot 1\nlabels 1 g\nfuse g g 1\n";
@@ -54,9 +64,9 @@ const ISING_TAIL: &str = "f s s s s p 1 0,0,1,0,0,0,-1/2\nf s s s s p p 0,0,-1,0
     r s p s 0,0,0,0,-1\nr p s s 0,0,0,0,-1\nr p p 1 -1\n";
 
 // Left-combed starts of four strands.
-const T4: &str = "program 1\nstart (((t t):1 t):t t):1\n";
+const FOUR_T: &str = "program 1\nstart (((t t):1 t):t t):1\n";
 
-const G4: &str = "program 1\nstart (((g g):1 g):g g):1\n";
+const FOUR_G: &str = "program 1\nstart (((g g):1 g):g g):1\n";
 
 const ROWS: &str = "total 2,0,1,1\noutcome 1 weight 5,0,3,3\noutcome t weight -3,0,-2,-2\n";
 
@@ -119,15 +129,28 @@ fn check(
     Ok(())
 }
 
+// The same of a refusal, whose line has its end left out.
+fn refuses(
+    rt: &impl Abort,
+    alloc: Global,
+    line: &str,
+    texts: Texts<'_>,
+    bytes: Vec<u8>,
+) -> Result<(), AllocError> {
+    let mut bytes = bytes;
+    bytes.push(b'\n')?;
+    check(rt, alloc, line, texts, Status::Refused, &bytes)
+}
+
 #[test]
 fn rows(rt: HostRuntime) -> Result<(), Fail> {
     let alloc = rt.alloc();
     for (start, commands, bytes) in [
-        (T4, "measure 2\n", ROWS),
-        (T4, "braid 2 +\nmeasure 1\n", ROWS),
-        (T4, "braid 2 -\nmeasure 1\n", ROWS),
+        (FOUR_T, "measure 2\n", ROWS),
+        (FOUR_T, "braid 2 +\nmeasure 1\n", ROWS),
+        (FOUR_T, "braid 2 -\nmeasure 1\n", ROWS),
         (
-            T4,
+            FOUR_T,
             "braid 2 +\nbraid 2 -\nmeasure 1\n",
             "total 2,0,1,1\noutcome 1 weight 2,0,1,1\n",
         ),
@@ -158,28 +181,28 @@ fn rows_of_other_roots(rt: HostRuntime) -> Result<(), Fail> {
         (
             "category 1\nroot 4\nlabels 1 g\nfuse g g 1\n",
             "f g g g g 1 1 -1\nr g g 1 0,1\n",
-            G4,
+            FOUR_G,
             "braid 2 +\nmeasure 2\n",
             "total 1\noutcome 1 weight 1\n",
         ),
         (
             "category 1\nroot 60\nlabels 1 g\nfuse g g 1\n",
             "f g g g g 1 1 -1\nr g g 1 0,0,0,0,0,0,0,0,0,0,0,0,0,0,0,1\n",
-            G4,
+            FOUR_G,
             "braid 2 +\nmeasure 2\n",
             "total 1\noutcome 1 weight 1\n",
         ),
         (
             FIB_10,
             FIB_10_TAIL,
-            T4,
+            FOUR_T,
             "braid 2 +\nmeasure 1\n",
             "total 1,0,-1,1\noutcome 1 weight 2,0,-3,3\noutcome t weight -1,0,2,-2\n",
         ),
         (
             FIB_60,
             FIB_60_TAIL,
-            T4,
+            FOUR_T,
             "braid 2 +\nmeasure 1\n",
             "total 2,0,0,0,-1,0,-1,0,0,0,0,0,0,0,1\n\
             outcome 1 weight 5,0,0,0,-3,0,-3,0,0,0,0,0,0,0,3\n\
@@ -245,71 +268,85 @@ fn formats(rt: HostRuntime) -> Result<(), Fail> {
     Ok(())
 }
 
+// Each cause of a category text, at its first line. Where several stand together the first in their order is told.
 #[test]
-fn refused_formats(rt: HostRuntime) -> Result<(), Fail> {
+fn category_lines(rt: HostRuntime) -> Result<(), Fail> {
     let alloc = rt.alloc();
     for (first, second, bytes) in [
-        (FIB, "r t t", "refused category line 9 short\n"),
-        ("", "", "refused category line 1 header\n"),
+        (BARE, "# caf\u{e9}\n", "line 4 not ascii"),
+        ("", "", "line 1 header"),
+        ("category 2\n", "", "line 1 header"),
+        ("category 1\nroot 19\n", "", "line 2 root"),
+        ("category 1\nroot 5\n", "", "line 3 labels"),
+        (ROOT, "labels\n", "line 3 labels"),
+        (ROOT, "labels a b c d e f g h i j k l m-\n", "line 3 labels"),
+        (ROOT, "labels a b c d e f g h i j k l a\n", "line 3 limit"),
+        (ROOT, "labels 1 t t\n", "line 3 repeated"),
+        (BARE, "category\n", "line 4 misplaced"),
+        (BARE, "root 5\n", "line 4 misplaced"),
+        (FUSING, "labels 1 t\n", "line 6 misplaced"),
+        (FUSING, "r t t 1 0,0,0,1\nfuse\n", "line 7 misplaced"),
+        (BARE, "fuses t t 1\n", "line 4 word"),
+        (BARE, "fuse t t\n", "line 4 short"),
+        (FUSING, "r x 1\n", "line 6 short"),
+        (BARE, "fuse t x 1 1\n", "line 4 long"),
+        (FUSING, "r x t 1 1 1\n", "line 6 long"),
+        (BARE, "fuse 1 1 x\n", "line 4 unknown label"),
+        (FUSING, "f t t t t t x 1/0\n", "line 6 unknown label"),
+        (BARE, "fuse t 1 t\n", "line 4 unit fuse"),
+        (BARE, "fuse t t 1\nr t t t 1/0\n", "line 5 not admissible"),
         (
-            "category 1\nroot 5\nlabels 1 t\nfuse 1 t t\nfuse t t 1\nfuse t t t\n",
-            "f t t t t 1 1 -1,0,-1,-1\n",
-            "refused category line 4 unit fuse\n",
+            BARE,
+            "fuse t t 1\nf t t t t t t 1\n",
+            "line 5 not admissible",
         ),
-        (
-            FIB,
-            "r t t 1 0,0,0,1\nr t t 1 0,0,0,1\nr t t t 1,1,1,1\n",
-            "refused category line 10 repeated\n",
-        ),
+        (BARE, "fuse t t 1\nfuse t t 1\n", "line 5 repeated"),
+        (FUSING, "w t t 1 2\nw t t 1 x\n", "line 7 repeated"),
+        (FUSING, "r t t 1 01\n", "line 6 number spelling"),
+        (FUSING, "r t t 1 0,0,0,0,0\n", "line 6 number parts"),
+        (FUSING, PAST_MOST, "line 6 number too big"),
+        (FUSING, "v t t 1 1/0\n", "line 6 number zero denominator"),
     ] {
-        check(
-            &rt,
-            alloc,
-            "format CAT",
-            Texts(first, second, "", ""),
-            Status::Refused,
-            bytes.as_bytes(),
-        )?;
+        let line = joined(alloc, "refused category ", bytes)?;
+        refuses(&rt, alloc, "format CAT", Texts(first, second, "", ""), line)?;
     }
     Ok(())
 }
 
+// A line that is too long comes before one that isn't ASCII.
+#[test]
+fn long_line(rt: HostRuntime) -> Result<(), Fail> {
+    let alloc = rt.alloc();
+    let mut comment = String::from_str(alloc, "#")?;
+    for _ in 0..600 {
+        comment.push_str("\u{e9}")?;
+    }
+    let texts = Texts(BARE, comment.as_str(), "", "");
+    let line = joined(alloc, "refused category line 4 ", "line too long")?;
+    refuses(&rt, alloc, "check CAT", texts, line)?;
+    Ok(())
+}
+
+// The category decides before the program is read.
 #[test]
 fn refused_categories(rt: HostRuntime) -> Result<(), Fail> {
     let alloc = rt.alloc();
     for (first, second, bytes) in [
-        ("", "", "refused category line 1 header\n"),
-        (FIB, "r t t", "refused category line 9 short\n"),
-        (
-            FIB,
-            "r t t 1 0,0,0,1\nr t t 1 0,0,0,1\n",
-            "refused category line 10 repeated\n",
-        ),
-        (
-            FIB,
-            "r t t 1 1/0\n",
-            "refused category line 9 number zero denominator\n",
-        ),
-        (
-            "category 1\nroot 5\nlabels 1 t\n",
-            "fuse 1 t t\n",
-            "refused category line 4 unit fuse\n",
-        ),
+        (FIB, "r t t", "refused category line 9 short"),
         (
             "category 1\nroot 16\nlabels 1 s p\n",
             "",
-            "refused not built category\n",
+            "refused not built category",
         ),
-        ("category 1\nroot 1\nlabels 1 g\n", "", "refused dual g\n"),
+        ("category 1\nroot 1\nlabels 1 g\n", "", "refused dual g"),
     ] {
-        // The category decides, so the program isn't read.
-        check(
+        let line = joined(alloc, bytes, "")?;
+        refuses(
             &rt,
             alloc,
             "comb CAT PROG",
             Texts(first, second, "", ""),
-            Status::Refused,
-            bytes.as_bytes(),
+            line,
         )?;
     }
     Ok(())
@@ -323,11 +360,11 @@ fn refused_programs(rt: HostRuntime) -> Result<(), Fail> {
             "program 1\nstart ((t t):1 (t t):1):1\n",
             "braid 2 +\nmeasure 1\n",
         ),
-        (T4, ""),
-        (T4, "measure 2\nmeasure 1\n"),
-        (T4, "raise 2\nmeasure 1\n"),
-        (T4, "measure 4\n"),
-        (T4, "measure  2\n"),
+        (FOUR_T, ""),
+        (FOUR_T, "measure 2\nmeasure 1\n"),
+        (FOUR_T, "raise 2\nmeasure 1\n"),
+        (FOUR_T, "measure 4\n"),
+        (FOUR_T, "measure  2\n"),
     ] {
         let texts = Texts(FIB, FIB_TAIL, start, commands);
         check(
@@ -348,15 +385,15 @@ fn limits(rt: HostRuntime) -> Result<(), Fail> {
     let alloc = rt.alloc();
     for (texts, bytes) in [
         (
-            Texts(LARGE_FIB, LARGE_FIB_TAIL, T4, "measure 2\n"),
+            Texts(LARGE_FIB, LARGE_FIB_TAIL, FOUR_T, "measure 2\n"),
             "limit overflow turn 2\n",
         ),
         (
-            Texts(LARGE_FIB, LARGE_FIB_TAIL, T4, LARGE_BRAIDS),
+            Texts(LARGE_FIB, LARGE_FIB_TAIL, FOUR_T, LARGE_BRAIDS),
             "limit overflow turn 6\n",
         ),
         (
-            Texts(Z2, LARGE_WEIGHT, G4, "measure 2\n"),
+            Texts(Z2, LARGE_WEIGHT, FOUR_G, "measure 2\n"),
             "limit overflow turn 0\n",
         ),
     ] {
@@ -500,7 +537,7 @@ fn refused_by_check(rt: HostRuntime) -> Result<(), Fail> {
 #[test]
 fn words_and_names(rt: HostRuntime) -> Result<(), Fail> {
     let alloc = rt.alloc();
-    let texts = Texts(FIB, FIB_TAIL, T4, "measure 2\n");
+    let texts = Texts(FIB, FIB_TAIL, FOUR_T, "measure 2\n");
     for (line, status) in [
         ("", Status::Usage),
         ("check", Status::Usage),
@@ -537,7 +574,7 @@ fn faults(rt: HostRuntime) -> Result<(), Fail> {
 
 fn fail_each(rt: &impl Abort, alloc: Global, line: &str, bytes: &[u8]) -> Result<(), AllocError> {
     let words = words(alloc, line)?;
-    let texts = Texts(FIB, FIB_TAIL, T4, "measure 2\n");
+    let texts = Texts(FIB, FIB_TAIL, FOUR_T, "measure 2\n");
 
     let mut shelf = MemShelf::new(texts.files(alloc)?, Vec::new(alloc), 64);
     let mut sink = MemSink::new(alloc, 300, Vec::new(alloc), 16)?;
@@ -587,7 +624,7 @@ fn long_texts(rt: HostRuntime) -> Result<(), Fail> {
         ("format CAT", 0, 4_194_304, Status::Done, FIB, FIB_TAIL),
         ("format CAT", 0, 4_194_305, Status::Refused, too_long, ""),
     ] {
-        let mut files = Texts(FIB, FIB_TAIL, T4, "measure 2\n").files(alloc)?;
+        let mut files = Texts(FIB, FIB_TAIL, FOUR_T, "measure 2\n").files(alloc)?;
         if let Some(file) = files.get_mut(place) {
             add_comments(&mut file.1, size)?;
         }
