@@ -25,7 +25,7 @@ pub fn too_long(alloc: Global, kind: Kind) -> Stop
 }
 
 /// The stop at a line of a text, with the words of its cause.
-fn refused_line(alloc: Global, kind: Kind, line: u32, cause: &str) -> Stop
+fn refused_line(alloc: Global, kind: Kind, line: u32, cause: &'static str) -> Stop
     ensures { StopsWith (refused_line kind line cause.now) result }
 {
     let mut buffer = Buffer::new();
