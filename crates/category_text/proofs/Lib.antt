@@ -19,6 +19,7 @@ pub mod PlainLemmas
 pub mod SaidLemmas
 pub mod StayLemmas
 pub mod LineLemmas
+pub mod KeepLemmas
 pub mod ValueLemmas
 pub mod AgainLemmas
 pub mod DraftLemmas

@@ -77,12 +77,12 @@ pub record SoFar : Type 0 where
   pub said : NamedSymbols
   pub has_symbols : Bool
 
+abbrev pub named_by : Option ℕ → Result ℕ CategoryCause
+named_by (Some number) = Ok number
+named_by None = Err UnknownLabel
+
 abbrev pub label : List (List ℕ) → List ℕ → Result ℕ CategoryCause
 label names text = named_by (label_of names text)
-  where
-    named_by : Option ℕ → Result ℕ CategoryCause
-    named_by (Some number) = Ok number
-    named_by None = Err UnknownLabel
 
 -- the three labels from a place on
 abbrev pub labels_at : List (List ℕ) → List (List ℕ) → ℕ → Result VIndex CategoryCause

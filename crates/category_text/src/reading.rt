@@ -1,6 +1,7 @@
 ghost use Rattle.std.specs.Prelude.{◌≡◌, ◌<◌, ◌-◌, ◌^◌, length, IfOk};
 ghost use Rattle.category_text.specs.Named.{seen};
 ghost use Rattle.category_text.specs.Reading.{category_of, body_of};
+ghost use Rattle.category_text.specs.Again.{IsSaid};
 ghost use Rattle.category_text.specs.Answers.{Told, body_draft, so_far};
 
 use crate::body::Body;
@@ -22,6 +23,7 @@ pub fn read_category(alloc: Global, bytes: &[u8]) -> Result<Named, CategoryFault
     requires { length bytes.now < 2 ^ 32 - 1 }
     ensures category { Told seen result (category_of bytes.now) }
     ensures counted { IfOk result (λ named. length named.names ≡ named.draft.rules.count) }
+    ensures said { IfOk result (λ named. IsSaid (seen named)) }
 {
     let mut lines = Lines::new(bytes);
     let (ring, names) = read_head(alloc, &mut lines)?;

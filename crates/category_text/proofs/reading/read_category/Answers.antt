@@ -6,6 +6,7 @@ use Rattle.category_text.specs.declared.body.Body.TheVariants.{Fusing}
 use Rattle.category_text.specs.Named.{named_draft}
 use Rattle.category_text.specs.Reading.{head_of, begun}
 use Rattle.category_text.specs.Answers.{so_far}
+use Rattle.category_text.proofs.KeepLemmas.{all_said}
 use Rattle.category_text.proofs.WholeLemmas.{begun_is, whole_ok, whole_err}
 use Rattle.category_text.proofs.reading.read_category.Goals as goal
 
@@ -23,3 +24,6 @@ returns-clause-category c =
     whole_ok c.args.bytes.now c.in_ok-ring.ring c.in_ok-ring.names c.read_head.new.lines.ahead (so_far c.in_ok-ring.names (Fusing c.in_ok-ring.ring c.new-rules.result)) (so_far c.in_ok-ring.names c.in_ok-body.body)
     (ap head_of (sym c.new-lines.ensures) ∙ c.in_ok-ring.ensures.head) is c.in_ok-body.ensures.said
     ∙ ap (λ (d : DraftValue ℕ Ratio). Ok (named_draft c.in_ok-ring.names d)) (sym c.into_draft.ensures)
+
+pub returns-clause-said : goal.returns-clause-said
+returns-clause-said c = all_said c.args.bytes.now _ (returns-clause-category c)
