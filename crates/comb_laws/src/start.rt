@@ -26,7 +26,6 @@ pub(crate) fn push_leaves(tree: &Tree, strands: &mut Strands)
     match tree {
         Tree::Leaf(label) => strands.push(*label),
         Tree::Node(fork) => {
-            let fork = fork.get();
             push_leaves(&fork.left, strands);
             push_leaves(&fork.right, strands);
         }
@@ -46,7 +45,6 @@ pub(crate) fn own_path(tree: &Tree) -> Path
             path
         }
         Tree::Node(fork) => {
-            let fork = fork.get();
             let mut path = own_path(&fork.left);
             path.push(fork.label);
             path

@@ -1,5 +1,6 @@
 -- What a text is read to, judged by its form and its spelling.
 use Rattle.std.proofs.Common.{◌≡◌, ℕ, suc, ◌+◌, ◌<◌, ◌≤◌, List, [], ◌∷◌, ◌++◌, Bool, true, false, ◌&&◌, ltb, length, map, take, drop, position, refl, sym, ap, subst, ◌∙◌, arith, append_assoc, codes, if◌then◌else◌, Option, Some, None}
+use Rattle.std.specs.Prelude.{nat_le}
 use Rattle.std.specs.Str.{bytes_eq}
 use Rattle.std.proofs.lemmas.Bool.Decides.{nat_tests}
 use Rattle.std.proofs.lemmas.List.{length-drop}
@@ -14,7 +15,7 @@ use Rattle.program_text.specs.Form.{labels_below, are_comb_commands, is_comb_sta
 use Rattle.program_text.specs.Reading.{◌>>=◌, has_strands, without_opens, is_close, joint_of, joined_by, comb_of, start_of, first_line, commands_from, main_program, candidate, comb_program_of}
 use Rattle.program_text.specs.Parts.{tree_text, main_text}
 use Rattle.program_text.proofs.LabelLemmas.{label_small}
-use Rattle.program_text.proofs.FormLemmas.{is_start, main_form, main_spelled}
+use Rattle.program_text.proofs.FormLemmas.{main_form, main_spelled}
 use Rattle.program_text.proofs.StartLemmas.{strands_are}
 
 -- a tree that was read from words
@@ -165,16 +166,22 @@ refused names count fuse bytes p e other = rw (e, other) (by_form (is_comb_progr
     by_form false = refl
     by_form true = refl
 
+pub unformed : (names : List (List ℕ)) (count : ℕ) (fuse : ℕ → ℕ → ℕ → Bool) (bytes : List ℕ) (p : Program) → candidate names (reading_of 0 bytes).ahead ≡ Some p → is_comb_program fuse count p ≡ false
+    → comb_program_of names count fuse bytes ≡ None
+unfolding comb_program_of
+unformed names count fuse bytes p e other = rw (e, other) refl
+
 pub accepted : (names : List (List ℕ)) (count : ℕ) (fuse : ℕ → ℕ → ℕ → Bool) (bytes : List ℕ) (p : Program) → candidate names (reading_of 0 bytes).ahead ≡ Some p → is_comb_program fuse count p ≡ true
     → bytes_eq (canonical_program names p) bytes ≡ true → comb_program_of names count fuse bytes ≡ Some p
 unfolding comb_program_of
 accepted names count fuse bytes p e form same = rw (e, form, same) refl
 
--- a candidate that has the form of a comb program, and its text
+-- a candidate has the form of a comb program exactly where its start is admissible and its commands are of the form
 pub main_is : (names : List (List ℕ)) (count : ℕ) (fuse : ℕ → ℕ → ℕ → Bool) (t : Labelled) (commands : List Command) (strands : ℕ) → length names ≡ count → IsReadStart (length names) t → strands ≡ size t
-    → is_admissible fuse t ≡ true → are_comb_commands strands commands ≡ true → is_comb_program fuse count (main_program t commands) ≡ true
-main_is names count fuse t commands strands counts is counted admissible allowed =
-    let start : is_comb_start fuse count t ≡ true =
-    is_start fuse count t (record { some = is.some; few = is.few; comb = is.comb; below = ap (λ (n : ℕ). labels_below n t) (sym counts) ∙ is.below; admissible = admissible }) in
-    let commands_are : are_comb_commands (size t) commands ≡ true = ap (λ (n : ℕ). are_comb_commands n commands) (sym counted) ∙ allowed in
-    main_form fuse count t commands ∙ rw start commands_are
+    → is_comb_program fuse count (main_program t commands) ≡ (is_admissible fuse t && are_comb_commands strands commands)
+main_is names count fuse t commands strands counts is counted =
+    let some : nat_le 2 (size t) ≡ true = (let s = is.some in grind (arith, nat_tests)) in
+    let few : nat_le (size t) 16 ≡ true = (let s = is.few in grind (arith, nat_tests)) in
+    let below : labels_below count t ≡ true = ap (λ (n : ℕ). labels_below n t) (sym counts) ∙ is.below in
+    let start : is_comb_start fuse count t ≡ is_admissible fuse t = rw (some, few, is.comb, below) refl in
+    main_form fuse count t commands ∙ rw (start, counted) refl

@@ -45,12 +45,6 @@ start_is fuse count t is = by_tests (nat_le 2 (size t)) (nat_le (size t) 16) (is
     by_tests true true true true false e f g h i is = absurd (cc)
     by_tests true true true true true e f g h i is = record { some = grind (arith, nat_tests); few = grind (arith, nat_tests); comb = g; below = h; admissible = i }
 
-pub is_start : (fuse : ℕ → ℕ → ℕ → Bool) (count : ℕ) (t : Labelled) → IsStart fuse count t → is_comb_start fuse count t ≡ true
-is_start fuse count t is =
-    let some : nat_le 2 (size t) ≡ true = (let s = is.some in grind (arith, nat_tests)) in
-    let few : nat_le (size t) 16 ≡ true = (let s = is.few in grind (arith, nat_tests)) in
-    rw (some, few, is.comb, is.below) is.admissible
-
 abbrev site_with : List Command → List ℕ → ℕ → ℕ → ProgramSite
 site_with commands name first last = record { name = name; first = first; last = last; commands = commands }
 

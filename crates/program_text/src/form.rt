@@ -18,7 +18,6 @@ pub(crate) fn is_admissible(rules: &Rules, tree: &Tree) -> bool
     match tree {
         Tree::Leaf(_) => true,
         Tree::Node(fork) => {
-            let fork = fork.get();
             rules.allows(label(&fork.left), label(&fork.right), fork.label)
                 && is_admissible(rules, &fork.left)
                 && is_admissible(rules, &fork.right)
@@ -32,7 +31,7 @@ fn label(tree: &Tree) -> u8
 {
     match tree {
         Tree::Leaf(label) => *label,
-        Tree::Node(fork) => fork.get().label,
+        Tree::Node(fork) => fork.label,
     }
 }
 

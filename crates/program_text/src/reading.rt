@@ -1,8 +1,10 @@
-ghost use Rattle.std.specs.Prelude.{◌≡◌, ◌<◌, ◌^◌, ◌-◌, length, true, IfOk, option_map};
+ghost use Rattle.std.specs.Prelude.{◌≡◌, ◌&&◌, ◌<◌, ◌^◌, ◌-◌, length, true, IfOk, option_map};
 ghost use Rattle.line_text.specs.Text.{reading_of, words_of};
 ghost use Rattle.fusion_rules.specs.Fusion.{fuses};
+ghost use Rattle.tree_shapes.specs.Labelled.{is_admissible};
 ghost use Rattle.tree_shapes.specs.Views.{labelled};
-ghost use Rattle.program_text.specs.Reading.{comb_program_of, main_program, candidate, first_line};
+ghost use Rattle.program_text.specs.Form.{labels_below, are_comb_commands};
+ghost use Rattle.program_text.specs.Reading.{comb_program_of, candidate, first_line};
 ghost use Rattle.program_text.specs.Program.{program_of};
 ghost use Rattle.program_text.specs.Parts.{body_program};
 
@@ -35,14 +37,21 @@ pub fn read_comb_program(
     let Some(body) = read_body(alloc, names, bytes)? else {
         return Ok(None);
     };
-    let Body { start, commands } = body;
-    if !is_admissible(rules, &start.tree) || !are_comb_commands(start.strands, &commands) {
+    if !has_comb_form(rules, &body) {
         return Ok(None);
     }
-    if !is_canonical(alloc, names, &start.tree, &commands, bytes)? {
+    if !is_canonical(alloc, names, &body.start.tree, &body.commands, bytes)? {
         return Ok(None);
     }
-    Ok(Some(main_plan(alloc, start, commands)?))
+    Ok(Some(main_plan(alloc, body)?))
+}
+
+/// Whether the start is admissible, and the commands are those of a comb program on its strands.
+fn has_comb_form(rules: &Rules, body: &Body) -> bool
+    requires { labels_below rules.now.count (labelled body.now.start.tree) ≡ true }
+    ensures { result ≡ (is_admissible (fuses rules.now) (labelled body.now.start.tree) && are_comb_commands body.now.start.strands body.now.commands.items) }
+{
+    is_admissible(rules, &body.start.tree) && are_comb_commands(body.start.strands, &body.commands)
 }
 
 /// What a text can only be, before its form and its spelling are judged.
@@ -85,9 +94,10 @@ fn found_line<'a>(lines: &mut Lines<'a>) -> Option<Line<'a>>
 }
 
 /// The plan with the one site `main`.
-fn main_plan(alloc: Global, start: Comb, commands: Vec<Command>) -> Result<Plan, AllocError>
-    ensures { IfOk result (λ plan. program_of plan ≡ main_program (labelled start.tree) commands.items) }
+fn main_plan(alloc: Global, body: Body) -> Result<Plan, AllocError>
+    ensures { IfOk result (λ plan. program_of plan ≡ body_program body) }
 {
+    let Body { start, commands } = body;
     let Comb { tree, strands } = start;
     let site = Site {
         name: String::from_str(alloc, "main")?,

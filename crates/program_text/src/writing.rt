@@ -55,7 +55,6 @@ fn write_tree(names: &Names, tree: &Tree, text: &mut Vec<u8>) -> Result<(), Allo
     match tree {
         Tree::Leaf(label) => text.extend_from_slice(names.name(*label).as_bytes()),
         Tree::Node(fork) => {
-            let fork = fork.get();
             text.push(b'(')?;
             write_tree(names, &fork.left, text)?;
             text.push(b' ')?;

@@ -1,5 +1,5 @@
 -- Labelled fusion trees.
-use Rattle.std.specs.Prelude.{ℕ, zero, suc, ◌+◌, List, [], ◌∷◌, ◌++◌, Bool, true, false, ◌&&◌}
+use Rattle.std.specs.Prelude.{ℕ, ◌+◌, List, [], ◌∷◌, ◌++◌, Bool, true, false, ◌&&◌}
 
 -- A labelled fusion tree: a strand with its label, or two trees joined in a node with the label of its charge.
 pub data Labelled : Type 0 where

@@ -12,7 +12,6 @@ ghost use Rattle.tree_shapes.specs.Labelled.{Joined, Strand, is_strand, is_left_
 
 mod tree;
 
-use sqlite_items::Boxed;
 use std::alloc::{AllocError, Global};
 pub use tree::{Fork, Tree};
 
@@ -27,7 +26,7 @@ pub fn strand(label: u8) -> Tree
 pub fn join(alloc: Global, left: Tree, right: Tree, label: u8) -> Result<Tree, AllocError>
     ensures { IfOk result (λ t. labelled t ≡ Joined (labelled left) (labelled right) label) }
 {
-    Ok(Tree::Node(Boxed::new(alloc, Fork { left, right, label })?))
+    Ok(Tree::Node(Box::new(alloc, Fork { left, right, label })?))
 }
 
 /// Whether every right child is a strand.
@@ -36,10 +35,7 @@ pub fn is_left_comb(tree: &Tree) -> bool
 {
     match tree {
         Tree::Leaf(_) => true,
-        Tree::Node(fork) => {
-            let fork = fork.get();
-            is_leaf(&fork.right) && is_left_comb(&fork.left)
-        }
+        Tree::Node(fork) => is_leaf(&fork.right) && is_left_comb(&fork.left),
     }
 }
 
