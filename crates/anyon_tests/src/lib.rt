@@ -1,5 +1,4 @@
-//! Worked rows of the top call over texts in memory: commands, texts, statuses and written bytes, and every
-//! fault in turn.
+//! Faults of shelves and sinks in turn, and texts at the limit of their size, through the top call.
 //!
 //! They stand above the crate of the top call, so that its proof isn't checked again for them.
 #![tactic(auto)]

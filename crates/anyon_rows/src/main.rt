@@ -1,0 +1,63 @@
+//! Runs the worked rows: calls of the top call over texts in memory, as the file `rows.txt` lists them.
+//!
+//! A line `text NAME` begins a text, whose lines follow, each behind a `|`; a last line without its end stands
+//! behind a `.`. A line `row WORDS` calls the program with these words over all texts of the file. What is printed
+//! of a row is this line, what was written, and the status's code.
+#![tactic(auto)]
+
+use anyon_app::anyon;
+use io_ports::{MemSink, SureShelf};
+use std::alloc::{AllocError, Global};
+use std::{fs, io};
+
+// The texts that the lines of a script spell, with their names.
+fn texts(alloc: Global, script: &str) -> Result<Vec<(String, Vec<u8>)>, AllocError> {
+    let mut texts = Vec::new(alloc);
+    for line in script.lines() {
+        if let Some(name) = line.strip_prefix("text ") {
+            texts.push((String::from_str(alloc, name)?, Vec::new(alloc)))?;
+        } else if let Some(content) = line.strip_prefix("|") {
+            extend(&mut texts, content, "\n")?;
+        } else if let Some(content) = line.strip_prefix(".") {
+            extend(&mut texts, content, "")?;
+        }
+    }
+    Ok(texts)
+}
+
+// Appends a line and its end to the last text.
+fn extend(texts: &mut Vec<(String, Vec<u8>)>, content: &str, end: &str) -> Result<(), AllocError> {
+    if let Some(last) = texts.last_mut() {
+        last.1.extend_from_slice(content.as_bytes())?;
+        last.1.extend_from_slice(end.as_bytes())?;
+    }
+    Ok(())
+}
+
+fn words(alloc: Global, line: &str) -> Result<Vec<String>, AllocError> {
+    line.split_ascii_whitespace()
+        .map(|word| String::from_str(alloc, word))
+        .try_collect(alloc)
+}
+
+// Prints what the top call answers to these words.
+fn run_row<R: Print>(rt: &R, alloc: Global, shelf: &mut SureShelf, line: &str) -> io::Result<()> {
+    let words = words(alloc, line)?;
+    let mut sink = MemSink::new(alloc, 4096, Vec::new(alloc), 256)?;
+    let status = anyon(alloc, words.as_slice(), shelf, &mut sink);
+    println!(rt; "row {line}")?;
+    rt.write_all(sink.taken())?;
+    println!(rt; "status {}", status.code())
+}
+
+fn main(rt: HostRuntime) -> io::Result<()> {
+    let alloc = rt.alloc();
+    let script = fs::read_to_string(&rt, "rows.txt")?;
+    let mut shelf = SureShelf::new(texts(alloc, script.as_str())?, 4096);
+    for line in script.lines() {
+        if let Some(row) = line.strip_prefix("row ") {
+            run_row(&rt, alloc, &mut shelf, row)?;
+        }
+    }
+    Ok(())
+}
