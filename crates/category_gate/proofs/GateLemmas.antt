@@ -5,7 +5,8 @@ use Rattle.std.specs.Option.{option_or}
 use Rattle.std.proofs.lemmas.List.Elements.{All-cons, All-nil}
 use Rattle.fusion_rules.specs.Check.{RulesPass, rules_fault}
 use Rattle.symbol_table.specs.Symbols.{Symbols}
-use Rattle.symbol_table.specs.Laws.{IsLawful, LawHolds}
+use Rattle.symbol_table.specs.Laws.{IsLawful, LawHolds, laws_of}
+use Rattle.symbol_table.proofs.LawLemmas.{obeys}
 use Rattle.symbol_table.specs.declared.law.Law.{Law}
 use Rattle.symbol_table.specs.declared.law.Law.TheVariants.{UnitF, UnitR, UnitW, RealW, InverseW, NormR, DeriveH, DeriveS, InverseF, InverseH, Rigid, Pentagon, HexagonOne, HexagonTwo}
 use Rattle.symbol_table.specs.declared.law.Event.{Event}
@@ -78,13 +79,13 @@ module _ {E : Type 0} (c : Symbols E) where
 
   -- what the checks say together
   pub all_lawful : RulesPass c.count c.fuse → All (λ law. LawHolds c law) weight_laws → LawHolds c Pentagon → All (LawHolds c) hexagon_laws → IsLawful c
-  all_lawful rules before pentagon hexagons = record { rules = rules; laws = each_law (LawHolds c) before pentagon hexagons }
+  all_lawful rules before pentagon hexagons = record { rules = rules; laws = all_of (LawHolds c) (each_law (LawHolds c) before pentagon hexagons) (laws_of c.version) }
 
   -- what the weight laws ask of a lawful draft whose items fit
   pub weights_complete : {A : Type 0} (result : Result A WeightFault) (found : WeightFault) → result ≡ Err found
       → (All (λ law. LawHolds c law) weight_laws → All (λ law. Fits c law) weight_laws → NamesNoLaw result) → IsLawful c → EveryItemFits c → IsMemory (of_weights found)
   weights_complete result found is complete lawful fits =
-      only_memory result found is (complete (all_of (λ law. LawHolds c law) lawful.laws weight_laws) (all_of (λ law. Fits c law) fits weight_laws))
+      only_memory result found is (complete (all_of (λ law. LawHolds c law) (obeys c lawful) weight_laws) (all_of (λ law. Fits c law) fits weight_laws))
     where
       only_memory : {A : Type 0} (result : Result A WeightFault) (found : WeightFault) → result ≡ Err found → NamesNoLaw result → IsMemory (of_weights found)
       only_memory result (weights.Law event) is named = rw is at named
@@ -92,7 +93,7 @@ module _ {E : Type 0} (c : Symbols E) where
 
   -- a law that has an event isn't one that holds and fits
   pub pentagon_complete : {A : Type 0} (result : Result A Event) (event : Event) → result ≡ Err event → (LawHolds c Pentagon → Fits c Pentagon → IsOk result) → IsLawful c → EveryItemFits c → ⊥
-  pentagon_complete result event is complete lawful fits = not_ok result event is (complete (lawful.laws Pentagon) (fits Pentagon))
+  pentagon_complete result event is complete lawful fits = not_ok result event is (complete (obeys c lawful Pentagon) (fits Pentagon))
 
   pub hexagon_complete : {A : Type 0} (result : Result A Event) (event : Event) → result ≡ Err event → (All (LawHolds c) hexagon_laws → All (Fits c) hexagon_laws → IsOk result) → IsLawful c → EveryItemFits c → ⊥
-  hexagon_complete result event is complete lawful fits = not_ok result event is (complete (all_of (LawHolds c) lawful.laws hexagon_laws) (all_of (Fits c) fits hexagon_laws))
+  hexagon_complete result event is complete lawful fits = not_ok result event is (complete (all_of (LawHolds c) (obeys c lawful) hexagon_laws) (all_of (Fits c) fits hexagon_laws))

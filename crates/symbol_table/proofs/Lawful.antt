@@ -6,11 +6,12 @@ use Rattle.ring_laws.specs.WholeLaws.{int_equal_is}
 use Rattle.fusion_rules.proofs.Worked.{one_label_passes}
 use Rattle.fusion_rules.proofs.PassLemmas.{no_fault_passes}
 use Rattle.symbol_table.specs.Symbols.{Symbols}
-use Rattle.symbol_table.specs.Laws.{IsLawful}
+use Rattle.symbol_table.specs.Laws.{IsLawful, LawHolds, laws_of}
 use Rattle.symbol_table.specs.Category.{IsCategory, draft_symbols}
 use Rattle.symbol_table.specs.declared.law.Law.{Law}
 use Rattle.symbol_table.specs.declared.law.Law.TheVariants.{UnitF, UnitR, UnitW, RealW, InverseW, NormR, DeriveH, DeriveS, InverseF, InverseH, Rigid, Pentagon, HexagonOne, HexagonTwo}
 use Rattle.symbol_table.proofs.Fib.{Whole5, num, fib, held5, fuse5}
+use Rattle.symbol_table.proofs.LawLemmas.{all_of}
 use Rattle.symbol_table.proofs.Tested.{is_lawful_at, tried_law}
 use Rattle.symbol_table.proofs.Worked.{unit_draft, unit_derived, unit_holds}
 
@@ -48,7 +49,7 @@ fib_tried HexagonTwo = refl
 pub fib_lawful : IsLawful fib
 fib_lawful = record {
   rules = no_fault_passes 2 fuse5 refl;
-  laws = λ law. tried_law fib equal_sound equal_complete law (fib_tried law);
+  laws = all_of (LawHolds fib) (λ law. tried_law fib equal_sound equal_complete law (fib_tried law)) (laws_of 1);
 }
 
 abbrev pub unit_alone : Symbols ℤ
@@ -75,7 +76,7 @@ pub unit_category : IsCategory whole_ring whole_held unit_draft unit_derived
 unit_category = record {
   lawful = record {
     rules = one_label_passes;
-    laws = λ law. tried_law unit_alone (λ x y. (int_equal_is x y).0) (λ x y. (int_equal_is x y).1) law (unit_tried law);
+    laws = all_of (LawHolds unit_alone) (λ law. tried_law unit_alone (λ x y. (int_equal_is x y).0) (λ x y. (int_equal_is x y).1) law (unit_tried law)) (laws_of 1);
   };
   holds = unit_holds;
 }

@@ -7,7 +7,6 @@ use Rattle.ring_laws.specs.Ring.{Ring, Held}
 use Rattle.symbol_table.specs.Symbols.{Symbols}
 use Rattle.symbol_table.specs.Laws.{Equation, Same, NotZero, Free, Holds, LawHolds, equation_of, form_of, fuse_all}
 use Rattle.symbol_table.specs.declared.law.Law.{Law}
-use Rattle.symbol_table.specs.declared.law.Law.TheVariants.{UnitF, UnitR, UnitW, RealW, InverseW, NormR, DeriveH, DeriveS, InverseF, InverseH, Rigid, Pentagon, HexagonOne, HexagonTwo}
 
 -- each label below n
 abbrev pub all_below : ℕ → (ℕ → Bool) → Bool
@@ -29,11 +28,6 @@ is_met r held Free = true
 abbrev pub is_lawful_at : {E : Type 0} → Symbols E → Law → Bool
 is_lawful_at c law =
     all_over c.count (form_of law).places (λ i. not (fuse_all c.fuse i (form_of law).triples) || is_met c.ring c.held (equation_of c law i)) []
-
-abbrev pub all_laws : (Law → Bool) → Bool
-all_laws test =
-    test UnitF && test UnitR && test UnitW && test RealW && test InverseW && test NormR && test DeriveH && test DeriveS && test InverseF && test InverseH
-    && test Rigid && test Pentagon && test HexagonOne && test HexagonTwo
 
 both : (a b : Bool) → (a && b) ≡ true → (a ≡ true) × (b ≡ true)
 both true b h = (refl, h)

@@ -20,6 +20,7 @@ turned_ring = record whole_ring { conjugate = neg_ℤ }
 -- all labels fuse, and each symbol is another number: 1abcdef, 2abc, 3abc, 4abc in digits
 abbrev numbered : Given ℤ
 numbered = record {
+  version = 1;
   count = 7;
   fuse = λ a b c. true;
   set_f = λ a b c d e f. Some (pos (1000000 + 100000 * a + 10000 * b + 1000 * c + 100 * d + 10 * e + f));
@@ -45,6 +46,7 @@ s_stated = refl
 -- Fibonacci rules with two values of F and one of R
 abbrev partly : DraftValue ℕ ℤ
 partly = record {
+  version = 1;
   ring = 0;
   rules = fib;
   set_f = (f_index 1 1 1 1 0 0, pos 7) ∷ (f_index 1 1 1 1 1 0, pos 9) ∷ [];
@@ -102,7 +104,7 @@ no_conjugate = refl
 
 -- the unit alone: H and S are 1, and a derived value that holds them
 abbrev pub unit_draft : DraftValue ℕ ℤ
-unit_draft = record { ring = 0; rules = one_label; set_f = []; set_r = []; set_w = []; set_v = [] }
+unit_draft = record { version = 1; ring = 0; rules = one_label; set_f = []; set_r = []; set_w = []; set_v = [] }
 
 abbrev pub unit_derived : DerivedValue ℤ
 unit_derived = record { put_h = (f_index 0 0 0 0 0 0, pos 1) ∷ []; put_s = (v_index 0 0 0, pos 1) ∷ [] }

@@ -11,8 +11,9 @@ use Rattle.symbol_table.specs.declared.index.VIndex.{VIndex}
 use Rattle.symbol_table.specs.declared.draft.SetFault.{SetFault}
 use Rattle.symbol_table.specs.declared.draft.SetFault.TheVariants.{NotAdmissible, Repeated, Memory}
 
--- The ring, the rules, and the values that were set, in the order of their indices.
+-- The version, the ring, the rules, and the values that were set, in the order of their indices.
 pub record DraftValue (R E : Type 0) : Type 0 where
+  pub version : ℕ
   pub ring : R
   pub rules : Fusion
   pub set_f : List (FIndex × E)
@@ -20,9 +21,10 @@ pub record DraftValue (R E : Type 0) : Type 0 where
   pub set_w : List (VIndex × E)
   pub set_v : List (VIndex × E)
 
--- what a draft gives: its triples, and the value at each index that was set
+-- what a draft gives: its version, its triples, and the value at each index that was set
 abbrev pub given : {R E : Type 0} → DraftValue R E → Given E
 given draft = record {
+  version = draft.version;
   count = draft.rules.count;
   fuse = fuses draft.rules;
   set_f = λ a b c d e f. lookup (is_at (f_cmp (f_index a b c d e f))) draft.set_f;

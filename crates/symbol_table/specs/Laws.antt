@@ -45,6 +45,11 @@ form_of Pentagon =
 form_of HexagonOne = hexagon_form
 form_of HexagonTwo = hexagon_form
 
+-- The laws of a version, in the order of the check: those of one symbol, weight or vertex, the pentagon, the hexagons.
+abbrev pub laws_of : ℕ → List Law
+laws_of version =
+    UnitF ∷ UnitR ∷ UnitW ∷ RealW ∷ InverseW ∷ NormR ∷ DeriveH ∷ DeriveS ∷ InverseF ∷ InverseH ∷ Rigid ∷ Pentagon ∷ HexagonOne ∷ HexagonTwo ∷ []
+
 -- the labels at three places of an index fuse
 abbrev pub fuses_at : (ℕ → ℕ → ℕ → Bool) → List ℕ → Triple → Bool
 fuses_at fuse index t = fuse (slice_index index t.a) (slice_index index t.b) (slice_index index t.c)
@@ -158,7 +163,7 @@ module _ {E : Type 0} (c : Symbols E) where
       (i : List ℕ) → length i ≡ (form_of law).places → All (λ t. t < c.count) i → fuse_all c.fuse i (form_of law).triples ≡ true
       → Holds c.ring (equation_of law i)
 
-  -- The rules pass, and every equation of every law is true. There is no order here, and no early end.
+  -- The rules pass, and every equation of every law of the version is true. There is no order here, and no early end.
   pub record IsLawful : Type 0 where
     pub rules : RulesPass c.count c.fuse
-    pub laws : (law : Law) → LawHolds law
+    pub laws : All LawHolds (laws_of c.version)

@@ -23,12 +23,14 @@ pub enum SetFault {
     Memory,
 }
 
-/// Rules, and values of F, R, w and v at some of their admissible indices, over a ring.
+/// Rules, and values of F, R, w and v at some of their admissible indices, over a ring; and the version of the laws
+/// that they are to obey.
 ///
 /// A symbol that wasn't set is 1. Every value that was set is a member of the ring. Nothing says that the
 /// symbols are those of a category.
 #[derive(Drop)]
 pub struct Draft<R: StarRing> {
+    version: u8,
     ring: R,
     rules: Rules,
     f: BTreeMap<FIndex, R::Elem>,
@@ -42,18 +44,19 @@ impl<R: StarRing> Model for Draft<R> {
 
     ghost Value = { DraftValue R R.Elem };
 
-    ghost view = { λ d. record { ring = d.ring; rules = d.rules; set_f = d.f.entries; set_r = d.r.entries; set_w = d.w.entries; set_v = d.v.entries } };
+    ghost view = { λ d. record { version = d.version; ring = d.ring; rules = d.rules; set_f = d.f.entries; set_r = d.r.entries; set_w = d.w.entries; set_v = d.v.entries } };
 
-    ghost invariant = { λ d. IsOver (R.ring d.ring) (record { ring = d.ring; rules = d.rules; set_f = d.f.entries; set_r = d.r.entries; set_w = d.w.entries; set_v = d.v.entries }) };
+    ghost invariant = { λ d. IsOver (R.ring d.ring) (record { version = d.version; ring = d.ring; rules = d.rules; set_f = d.f.entries; set_r = d.r.entries; set_w = d.w.entries; set_v = d.v.entries }) };
 }
 
 impl<R: StarRing> Draft<R> {
-    /// A draft of this ring and these rules, with no symbol set.
+    /// A draft of this ring and these rules, of version 1, with no symbol set.
     pub fn new(alloc: Global, ring: R, rules: Rules) -> Draft<R>
         ensures { result ≡ record
-            { ring = ring; rules = rules; set_f = []; set_r = []; set_w = []; set_v = [] } }
+            { version = 1; ring = ring; rules = rules; set_f = []; set_r = []; set_w = []; set_v = [] } }
     {
         Draft {
+            version: 1,
             ring,
             rules,
             f: BTreeMap::new(alloc),
@@ -61,6 +64,13 @@ impl<R: StarRing> Draft<R> {
             w: BTreeMap::new(alloc),
             v: BTreeMap::new(alloc),
         }
+    }
+
+    /// The version: by it the list of laws goes that a category's symbols obey.
+    pub fn version(&self) -> u8
+        ensures { result ≡ self.now.version }
+    {
+        self.version
     }
 
     /// The ring of the values.
