@@ -3,6 +3,7 @@ use Rattle.std.specs.Prelude.{◌≡◌, ℕ, Bool, List, All, Option, Some, Non
 use Rattle.std.specs.Map.{lookup, values_of}
 use Rattle.std.specs.BTreeMap.{insert_entry, is_at}
 use Rattle.ring_laws.specs.Ring.{Ring}
+use Rattle.ring_laws.specs.declared.StarRing.{Ghosts}
 use Rattle.fusion_rules.specs.Fusion.{Fusion, fuses}
 use Rattle.symbol_table.specs.Symbols.{Given, f_admissible}
 use Rattle.symbol_table.specs.Index.{f_index, v_index, f_cmp, v_cmp, f_same, v_same}
@@ -43,6 +44,10 @@ pub record IsOver {R E : Type 0} (ring : Ring E) (draft : DraftValue R E) : Type
   pub r : AreMembers ring draft.set_r
   pub w : AreMembers ring draft.set_w
   pub v : AreMembers ring draft.set_v
+
+-- a value is of the draft's ring, for a clause under a bound R: StarRing, as `IsMember R.StarRing draft.now x`
+abbrev pub IsMember : {R E : Type 0} → Ghosts R E → DraftValue R E → E → Type 0
+IsMember bound draft x = IsTrue ((bound.ring draft.ring).member x)
 
 -- one value more
 module _ {R E : Type 0} (draft : DraftValue R E) where

@@ -1,8 +1,8 @@
 ghost use Rattle.std.specs.Prelude.{◌≡◌, ◌<◌, ◌≤◌, ℕ, [], IsTrue, OnOk, Option, Some, None, is_some, unwrap_or, if◌then◌else◌, List};
 ghost use Rattle.fusion_rules.specs.Fusion.{fuses};
 ghost use Rattle.symbol_table.specs.Index.{AreSixLabels, AreThreeLabels};
-ghost use Rattle.symbol_table.specs.Symbols.{f_of, vertex_of};
-ghost use Rattle.symbol_table.specs.Draft.{DraftValue, Sets, SetsF, SetsVertex, f_fault, f_index_admissible, given, vertex_fault, with_f, with_r, with_v, with_w};
+ghost use Rattle.symbol_table.specs.Category.{symbols};
+ghost use Rattle.symbol_table.specs.Draft.{DraftValue, IsMember, IsOver, Sets, SetsF, SetsVertex, f_fault, f_index_admissible, given, vertex_fault, with_f, with_r, with_v, with_w};
 
 use crate::index::{FIndex, VIndex};
 use crate::values::{fault_at, set_value, value_or_one};
@@ -68,7 +68,9 @@ impl<R: StarRing> Draft<R> {
 
     /// The version: by it the list of laws goes that a category's symbols obey.
     pub fn version(&self) -> u8
-        ensures { result ≡ self.now.version }
+        ensures version { result ≡ self.now.version }
+        // Every value that was set is a member of the ring.
+        ensures members { IsOver (R.ring self.now.ring) self.now }
     {
         self.version
     }
@@ -90,9 +92,9 @@ impl<R: StarRing> Draft<R> {
     /// F at an admissible index: the value that was set, or 1.
     pub fn f(&self, at: &FIndex) -> R::Elem
         requires { IsTrue (f_index_admissible (given self.now) at.now) }
-        ensures value { result ≡ f_of (R.ring self.now.ring) (given self.now) at.now.a at.now.b at.now.c
+        ensures value { result ≡ (symbols R.StarRing self.now).f at.now.a at.now.b at.now.c
             at.now.d at.now.e at.now.f }
-        ensures member { IsTrue ((R.ring self.now.ring).member result) }
+        ensures member { IsMember R.StarRing self.now result }
         ensures held { IsTrue (R.held.can_hold result) }
     {
         value_or_one(&self.ring, self.f.get(at))
@@ -101,9 +103,9 @@ impl<R: StarRing> Draft<R> {
     /// R at an admissible index: the value that was set, or 1.
     pub fn r(&self, at: &VIndex) -> R::Elem
         requires { IsTrue (fuses self.now.rules at.now.a at.now.b at.now.c) }
-        ensures value { result ≡ vertex_of (R.ring self.now.ring) (given self.now) (given self.now).set_r
+        ensures value { result ≡ (symbols R.StarRing self.now).r
             at.now.a at.now.b at.now.c }
-        ensures member { IsTrue ((R.ring self.now.ring).member result) }
+        ensures member { IsMember R.StarRing self.now result }
         ensures held { IsTrue (R.held.can_hold result) }
     {
         value_or_one(&self.ring, self.r.get(at))
@@ -112,9 +114,9 @@ impl<R: StarRing> Draft<R> {
     /// The weight w at an admissible index: the value that was set, or 1.
     pub fn w(&self, at: &VIndex) -> R::Elem
         requires { IsTrue (fuses self.now.rules at.now.a at.now.b at.now.c) }
-        ensures value { result ≡ vertex_of (R.ring self.now.ring) (given self.now) (given self.now).set_w
+        ensures value { result ≡ (symbols R.StarRing self.now).w
             at.now.a at.now.b at.now.c }
-        ensures member { IsTrue ((R.ring self.now.ring).member result) }
+        ensures member { IsMember R.StarRing self.now result }
         ensures held { IsTrue (R.held.can_hold result) }
     {
         value_or_one(&self.ring, self.w.get(at))
@@ -123,9 +125,9 @@ impl<R: StarRing> Draft<R> {
     /// The inverse weight v at an admissible index: the value that was set, or 1.
     pub fn v(&self, at: &VIndex) -> R::Elem
         requires { IsTrue (fuses self.now.rules at.now.a at.now.b at.now.c) }
-        ensures value { result ≡ vertex_of (R.ring self.now.ring) (given self.now) (given self.now).set_v
+        ensures value { result ≡ (symbols R.StarRing self.now).v
             at.now.a at.now.b at.now.c }
-        ensures member { IsTrue ((R.ring self.now.ring).member result) }
+        ensures member { IsMember R.StarRing self.now result }
         ensures held { IsTrue (R.held.can_hold result) }
     {
         value_or_one(&self.ring, self.v.get(at))
@@ -137,7 +139,7 @@ impl<R: StarRing> Draft<R> {
     /// before. Refused, or for want of memory, the draft is unchanged.
     pub fn set_f(&mut self, at: FIndex, value: R::Elem) -> Result<(), SetFault>
         requires labels { AreSixLabels self.old.rules.count at.a at.b at.c at.d at.e at.f }
-        requires member { IsTrue ((R.ring self.old.ring).member value) }
+        requires member { IsMember R.StarRing self.old value }
         ensures told { Sets result (f_fault (given self.old) at) self.old self.new (with_f self.old at value) }
         ensures sets { OnOk result (SetsF at value (given self.old).set_f (given self.new).set_f) }
     {
@@ -153,7 +155,7 @@ impl<R: StarRing> Draft<R> {
     /// before. Refused, or for want of memory, the draft is unchanged.
     pub fn set_r(&mut self, at: VIndex, value: R::Elem) -> Result<(), SetFault>
         requires labels { AreThreeLabels self.old.rules.count at.a at.b at.c }
-        requires member { IsTrue ((R.ring self.old.ring).member value) }
+        requires member { IsMember R.StarRing self.old value }
         ensures told { Sets result (vertex_fault (given self.old) (given self.old).set_r at) self.old self.new
             (with_r self.old at value) }
         ensures sets { OnOk result (SetsVertex at value (given self.old).set_r (given self.new).set_r) }
@@ -170,7 +172,7 @@ impl<R: StarRing> Draft<R> {
     /// before. Refused, or for want of memory, the draft is unchanged.
     pub fn set_w(&mut self, at: VIndex, value: R::Elem) -> Result<(), SetFault>
         requires labels { AreThreeLabels self.old.rules.count at.a at.b at.c }
-        requires member { IsTrue ((R.ring self.old.ring).member value) }
+        requires member { IsMember R.StarRing self.old value }
         ensures told { Sets result (vertex_fault (given self.old) (given self.old).set_w at) self.old self.new
             (with_w self.old at value) }
         ensures sets { OnOk result (SetsVertex at value (given self.old).set_w (given self.new).set_w) }
@@ -187,7 +189,7 @@ impl<R: StarRing> Draft<R> {
     /// before. Refused, or for want of memory, the draft is unchanged.
     pub fn set_v(&mut self, at: VIndex, value: R::Elem) -> Result<(), SetFault>
         requires labels { AreThreeLabels self.old.rules.count at.a at.b at.c }
-        requires member { IsTrue ((R.ring self.old.ring).member value) }
+        requires member { IsMember R.StarRing self.old value }
         ensures told { Sets result (vertex_fault (given self.old) (given self.old).set_v at) self.old self.new
             (with_v self.old at value) }
         ensures sets { OnOk result (SetsVertex at value (given self.old).set_v (given self.new).set_v) }
@@ -234,8 +236,8 @@ impl<R: StarRing> Draft<R> {
     /// F(a,b,c,d;e,f) at any six labels below the count: 0 where they aren't admissible.
     pub fn f_at(&self, a: u8, b: u8, c: u8, d: u8, e: u8, f: u8) -> R::Elem
         requires labels { AreSixLabels self.now.rules.count a b c d e f }
-        ensures value { result ≡ f_of (R.ring self.now.ring) (given self.now) a b c d e f }
-        ensures member { IsTrue ((R.ring self.now.ring).member result) }
+        ensures value { result ≡ (symbols R.StarRing self.now).f a b c d e f }
+        ensures member { IsMember R.StarRing self.now result }
         ensures held { IsTrue (R.held.can_hold result) }
     {
         let at = FIndex { a, b, c, d, e, f };
@@ -248,8 +250,8 @@ impl<R: StarRing> Draft<R> {
     /// R(a,b,c) at any three labels below the count: 0 where they aren't admissible.
     pub fn r_at(&self, a: u8, b: u8, c: u8) -> R::Elem
         requires labels { AreThreeLabels self.now.rules.count a b c }
-        ensures value { result ≡ vertex_of (R.ring self.now.ring) (given self.now) (given self.now).set_r a b c }
-        ensures member { IsTrue ((R.ring self.now.ring).member result) }
+        ensures value { result ≡ (symbols R.StarRing self.now).r a b c }
+        ensures member { IsMember R.StarRing self.now result }
         ensures held { IsTrue (R.held.can_hold result) }
     {
         if !self.rules.allows(a, b, c) {
@@ -261,8 +263,8 @@ impl<R: StarRing> Draft<R> {
     /// The weight w(a,b,c) at any three labels below the count: 0 where they aren't admissible.
     pub fn w_at(&self, a: u8, b: u8, c: u8) -> R::Elem
         requires labels { AreThreeLabels self.now.rules.count a b c }
-        ensures value { result ≡ vertex_of (R.ring self.now.ring) (given self.now) (given self.now).set_w a b c }
-        ensures member { IsTrue ((R.ring self.now.ring).member result) }
+        ensures value { result ≡ (symbols R.StarRing self.now).w a b c }
+        ensures member { IsMember R.StarRing self.now result }
         ensures held { IsTrue (R.held.can_hold result) }
     {
         if !self.rules.allows(a, b, c) {
@@ -274,8 +276,8 @@ impl<R: StarRing> Draft<R> {
     /// The inverse weight v(a,b,c) at any three labels below the count: 0 where they aren't admissible.
     pub fn v_at(&self, a: u8, b: u8, c: u8) -> R::Elem
         requires labels { AreThreeLabels self.now.rules.count a b c }
-        ensures value { result ≡ vertex_of (R.ring self.now.ring) (given self.now) (given self.now).set_v a b c }
-        ensures member { IsTrue ((R.ring self.now.ring).member result) }
+        ensures value { result ≡ (symbols R.StarRing self.now).v a b c }
+        ensures member { IsMember R.StarRing self.now result }
         ensures held { IsTrue (R.held.can_hold result) }
     {
         if !self.rules.allows(a, b, c) {
