@@ -12,12 +12,15 @@ use Rattle.cyclo_text.specs.NumberWords.{number_of}
 use Rattle.cyclo_text.specs.declared.fault.NumberWord.{NumberWord}
 use Rattle.fusion_rules.specs.Fusion.{is_triple, unit_fuses, are_labels}
 use Rattle.fusion_rules.specs.Names.{AreNames, all_names, has_repeat, label_of}
+use Rattle.fusion_rules.proofs.FoundLemmas.{label_below}
 use Rattle.symbol_table.specs.Symbols.{Given}
 use Rattle.symbol_table.specs.Index.{AreThreeLabels, v_index}
 use Rattle.symbol_table.specs.declared.index.VIndex.{VIndex}
 use Rattle.category_text.specs.declared.fault.CategoryCause.{CategoryCause}
 use Rattle.category_text.specs.declared.fault.CategoryCause.TheVariants.{Labels, Limit, Repeated, Misplaced, Root, UnitFuse}
 use Rattle.category_text.specs.declared.kind.Kind.{Kind}
+use Rattle.category_text.specs.declared.kind.LineKind.{LineKind}
+use Rattle.category_text.specs.declared.kind.LineKind.TheVariants.{Fusion, OfSymbol}
 use Rattle.category_text.specs.declared.kind.Symbol.{Symbol}
 use Rattle.category_text.specs.declared.kind.Symbol.TheVariants.{OfF, OfR, OfW, OfV}
 use Rattle.category_text.specs.declared.kind.VertexKind.{VertexKind}
@@ -26,11 +29,10 @@ use Rattle.category_text.specs.Named.{NamedSymbols, with_fusion, with_symbol, on
 use Rattle.category_text.specs.Canonical.{vertex_value}
 use Rattle.category_text.specs.Spelled.{fused_with, set_with}
 use Rattle.category_text.specs.Again.{IsNumberOf, IsSaid, AllSaid}
-use Rattle.category_text.specs.Reading.{◌>>=◌, SoFar, on_line, unless, sized, header_of, root_of, root_at, names_in, labels_of, label, named_by, labels_at, fused, fuse_of, kind_of, number_place, symbol_at, may_set, numbered, symbol_of, is_head, symbol_by, fusion_by, line_of, required, head_of, body_of, begun, category_of}
+use Rattle.category_text.specs.Reading.{◌>>=◌, SoFar, on_line, unless, sized, header_of, root_of, root_at, names_in, labels_of, label, named_by, labels_at, fused, fuse_of, number_place, symbol_at, may_set, numbered, symbol_of, line_kind, line_by, line_of, required, head_of, body_of, begun, category_of}
 use Rattle.category_text.proofs.IndexLemmas.{set_of, same_symbol, set_of_with, count_with, fuse_with}
 use Rattle.category_text.proofs.NumberLemmas.{number_said}
 use Rattle.category_text.proofs.SaidLemmas.{left_of}
-use Rattle.category_text.proofs.SymbolLemmas.{label_below}
 
 -- each value that was set is a number of the ring
 abbrev pub AreSetNumbers : ℕ → Given Ratio → Type 0
@@ -179,20 +181,17 @@ symbol_ok kind said words next g e =
 
 line_ok : (before : SoFar) (words : List (List ℕ)) (next : SoFar) → IsGrown before.said → line_of before words ≡ Ok next → IsGrown next.said
 unfolding line_of
-line_ok before words next g e = go (is_head (word_in words 0)) (has_word words 0 (codes "fuse")) e
+line_ok before words next g e =
+    let kind = then_ok (line_kind words) _ next e in
+    by_kind kind.0 kind.2
   where
     by_place : (late : Bool) → (if late then Err Misplaced else fuse_of before.said words) ≡ Ok next → IsGrown next.said
     by_place true e = absurd (cc)
     by_place false e = fuse_ok before.said words next g e
 
-    by_kind : (kind : Option Kind) → symbol_by kind before.said words ≡ Ok next → IsGrown next.said
-    by_kind None e = absurd (cc)
-    by_kind (Some kind) e = symbol_ok kind before.said words next g e
-
-    go : (head fuse : Bool) → (if head then Err Misplaced else (if fuse then fusion_by before words else symbol_by (kind_of (word_in words 0)) before.said words)) ≡ Ok next → IsGrown next.said
-    go true fuse e = absurd (cc)
-    go false true e = by_place before.has_symbols e
-    go false false e = by_kind (kind_of (word_in words 0)) e
+    by_kind : (kind : LineKind) → line_by kind before words ≡ Ok next → IsGrown next.said
+    by_kind Fusion e = by_place before.has_symbols e
+    by_kind (OfSymbol kind) e = symbol_ok kind before.said words next g e
 
 on_line_ok : {A : Type 0} (number : ℕ) (r : Result A CategoryCause) (x : A) → on_line number r ≡ Ok x → r ≡ Ok x
 on_line_ok number (Ok y) x e = ap Ok (same_ok y x e)

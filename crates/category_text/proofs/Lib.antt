@@ -2,6 +2,7 @@ pub mod LabelLemmas
 pub mod RootLemmas
 pub mod SymbolLemmas
 pub mod Tried
+pub mod BodyLemmas
 pub mod WholeLemmas
 pub mod WritingLemmas
 pub mod TriedText

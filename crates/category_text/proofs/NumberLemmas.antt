@@ -24,7 +24,8 @@ use Rattle.cyclo_text.specs.declared.fault.NumberWord.TheVariants.{Spelling, Too
 use Rattle.cyclo_text.proofs.ReadBack.{number_back}
 use Rattle.cyclo_text.proofs.TrimLemmas.{at-trimmed, length-trimmed}
 use Rattle.category_text.specs.Again.{IsNumberOf}
-use Rattle.category_text.proofs.SpellLemmas.{IsWord, IsSpellable, number_word}
+use Rattle.line_text.proofs.PlainWordLemmas.{IsWord}
+use Rattle.category_text.proofs.SpellLemmas.{IsSpellable, number_word}
 
 -- what is its own reduced form has sixteen numerators and a denominator that isn't 0
 member_full : (root : ℕ) (x : Ratio) → IsTrue ((ring_at root).member x) → length x.numerators ≡ 16

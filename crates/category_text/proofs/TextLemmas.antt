@@ -8,11 +8,12 @@ use Rattle.cyclo_text.specs.NumberWords.{spelled_number}
 use Rattle.symbol_table.specs.Symbols.{f_admissible}
 use Rattle.symbol_table.specs.declared.index.FIndex.{FIndex}
 use Rattle.symbol_table.specs.declared.index.VIndex.{VIndex}
+use Rattle.fusion_rules.specs.Names.{name_of}
 use Rattle.category_text.specs.declared.kind.VertexKind.{VertexKind}
 use Rattle.category_text.specs.declared.kind.VertexKind.TheVariants.{OnR, OnW, OnV}
 use Rattle.category_text.specs.Named.{NamedSymbols}
 use Rattle.category_text.specs.Reading.{Fault, category_of}
-use Rattle.category_text.specs.Canonical.{vertices, sixes, name_of, is_one, kind_word, f_words, f_value, vertex_value, canonical}
+use Rattle.category_text.specs.Canonical.{vertices, sixes, is_one, kind_word, f_words, f_value, vertex_value, canonical}
 use Rattle.category_text.specs.Again.{SameSymbols, AllReadAgain, AllSettled, AllShort, OneText, SameText, TextsApart, TextsReadAgain, TextsSettled, TextsShort}
 use Rattle.category_text.proofs.AgainLemmas.{read_again, short_text}
 use Rattle.category_text.proofs.KeepLemmas.{all_said}

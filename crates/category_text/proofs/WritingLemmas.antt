@@ -9,10 +9,11 @@ use Rattle.cyclo_core.specs.CycloLaws.{same_ratio_is}
 use Rattle.symbol_table.specs.Index.{v_index}
 use Rattle.symbol_table.specs.declared.index.FIndex.{FIndex}
 use Rattle.symbol_table.specs.declared.index.VIndex.{VIndex}
+use Rattle.fusion_rules.specs.Names.{name_of}
 use Rattle.category_text.specs.declared.kind.VertexKind.{VertexKind}
 use Rattle.category_text.specs.declared.kind.VertexKind.TheVariants.{OnR, OnW, OnV}
 use Rattle.category_text.specs.Named.{NamedSymbols}
-use Rattle.category_text.specs.Canonical.{name_of, counting, vertices, sixes, behind, fuse_line, f_line, vertex_line, has_fuse_line, has_f_line, has_vertex_line, fuse_lines, f_lines, vertex_lines, head_lines, canonical}
+use Rattle.category_text.specs.Canonical.{counting, vertices, sixes, behind, fuse_line, f_line, vertex_line, has_fuse_line, has_f_line, has_vertex_line, fuse_lines, f_lines, vertex_lines, head_lines, canonical}
 use Rattle.category_text.specs.Writing.{texts, names_text, fuse_text, f_text, vertex_text, row, plane, space, behind_text, written}
 
 -- text behind text

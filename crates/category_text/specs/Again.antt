@@ -2,6 +2,7 @@
 use Rattle.std.specs.Prelude.{◌≡◌, ℕ, ◌-◌, ◌^◌, ◌<◌, ◌||◌, ◌==◌, List, length, true, IsOkAnd, IsTrue, Ok}
 use Rattle.poly_core.specs.Rho.{is_accepted}
 use Rattle.cyclo_core.specs.Ratio.{Ratio, ring_at, is_held}
+use Rattle.fusion_rules.specs.declared.label.TheConstants.{UNIT}
 use Rattle.fusion_rules.specs.Fusion.{unit_fuses}
 use Rattle.fusion_rules.specs.Names.{AreNames}
 use Rattle.symbol_table.specs.Draft.{f_index_admissible}
@@ -24,7 +25,7 @@ pub record IsSaid (x : NamedSymbols) : Type 0 where
   pub some : 0 < length x.names
   pub counted : x.given.count ≡ length x.names
   pub accepted : is_accepted x.root ≡ true
-  pub units : (a b c : ℕ) → IsTrue (a == 0 || b == 0) → x.given.fuse a b c ≡ unit_fuses x.given.count a b c
+  pub units : (a b c : ℕ) → IsTrue (a == UNIT || b == UNIT) → x.given.fuse a b c ≡ unit_fuses x.given.count a b c
   pub labels : (a b c : ℕ) → IsTrue (x.given.fuse a b c) → AreThreeLabels x.given.count a b c
   pub f : (at : FIndex) → IsTrue (f_index_admissible x.given at) → IsNumberOf x.root (f_value x at)
   pub vertex : (kind : VertexKind) (at : VIndex) → IsTrue (x.given.fuse at.a at.b at.c) → IsNumberOf x.root (vertex_value x kind at)

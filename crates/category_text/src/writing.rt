@@ -4,10 +4,10 @@ ghost use Rattle.poly_core.specs.Rho.{is_accepted};
 ghost use Rattle.cyclo_core.specs.Ratio.{is_held, ring_at};
 ghost use Rattle.cyclo_text.specs.NumberWords.{spelled_number};
 ghost use Rattle.fusion_rules.specs.Fusion.{AreRules, fuses};
-ghost use Rattle.fusion_rules.specs.Names.{AreNames};
+ghost use Rattle.fusion_rules.specs.Names.{AreNames, name_of};
 ghost use Rattle.symbol_table.specs.Index.{AreSixLabels, AreThreeLabels};
 ghost use Rattle.category_text.specs.Named.{seen};
-ghost use Rattle.category_text.specs.Canonical.{behind, canonical, f_words, head_lines, is_one, kind_word, name_of, vertex_value};
+ghost use Rattle.category_text.specs.Canonical.{behind, canonical, f_words, head_lines, is_one, kind_word, vertex_value};
 ghost use Rattle.category_text.specs.Again.{IsSaid, ReadAgain};
 ghost use Rattle.category_text.specs.Writing.{BehindNumber, FNumber, GroupBelow, GroupNumber, InPlane, InRow, InSpace, VertexNumber, behind_text, f_text, fuse_text, group_text, names_text, plane, row, space, vertex_text, written};
 
