@@ -6,7 +6,7 @@ use Rattle.ring_laws.specs.Sums.{total}
 use Rattle.symbol_table.specs.Symbols.{Symbols, Given, symbols_of}
 use Rattle.symbol_table.specs.Laws.{Holds, hexagon_says}
 use Rattle.symbol_table.specs.declared.law.Kind.TheVariants.{Fails}
-use Rattle.law_events.specs.Stated.{add_product3_at}
+use Rattle.ring_laws.specs.Stated.{add_product3_at}
 use Rattle.law_events.specs.Sides.{hexagon, hexagon_left, hexagon_right, hexagon_step}
 use Rattle.law_events.specs.Verdicts.{JudgesRight}
 use Rattle.law_events.proofs.Values.{Evaluates, product3_is, add_product3_is, same_where_none, never_fails, step_is, steps_are}

@@ -9,8 +9,8 @@ ghost use Rattle.hexagon_check.specs.Exchange.{left_at, right_at, step_at, symbo
 
 use crate::exchange::Exchange;
 use fusion_rules::Rules;
-use law_events::{add_product3, compare, product3};
-use ring_laws::{Overflow, StarRing};
+use law_events::compare;
+use ring_laws::{Overflow, StarRing, add_product3, product3};
 use symbol_table::{Derived, Draft, Kind};
 
 /// The hexagon of one exchange, of a draft whose derived values are given.

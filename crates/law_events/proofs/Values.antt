@@ -4,10 +4,9 @@ use Rattle.std.specs.Prelude.{if◌then◌else◌, IsTrue}
 use Rattle.std.proofs.lemmas.Option.{none-some}
 use Rattle.ring_laws.specs.Ring.{Ring, Held, RingLaws}
 use Rattle.ring_laws.specs.Sums.{total}
-use Rattle.ring_laws.specs.Stated.{◌>>=◌, product_at, sum_at, conjugate_at, add_product_at, steps}
+use Rattle.ring_laws.specs.Stated.{◌>>=◌, product_at, product3_at, sum_at, conjugate_at, add_product_at, add_product3_at, steps}
 use Rattle.symbol_table.specs.declared.law.Kind.{Kind}
 use Rattle.symbol_table.specs.declared.law.Kind.TheVariants.{Fails, Overflow}
-use Rattle.law_events.specs.Stated.{product3_at, add_product3_at}
 use Rattle.law_events.specs.Sides.{judged}
 
 abbrev some_or : {A : Type 0} → A → Option A → A

@@ -1,4 +1,3 @@
 pub mod First
 pub mod Sides
-pub mod Stated
 pub mod Verdicts

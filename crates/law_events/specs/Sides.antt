@@ -5,7 +5,7 @@
 use Rattle.std.specs.Prelude.{ℕ, ◌&&◌, ◌||◌, ◌==◌, List, [], ◌∷◌, Option, Some, None, if◌then◌else◌}
 use Rattle.std.specs.Option.{option_or}
 use Rattle.ring_laws.specs.Ring.{Held}
-use Rattle.ring_laws.specs.Stated.{◌>>=◌, product_at, conjugate_at, add_product_at, steps}
+use Rattle.ring_laws.specs.Stated.{◌>>=◌, product_at, product3_at, conjugate_at, add_product_at, add_product3_at, steps}
 use Rattle.fusion_rules.specs.Check.{dual_of}
 use Rattle.symbol_table.specs.Symbols.{Symbols}
 use Rattle.symbol_table.specs.Laws.{at1, at3, at6, at9, identity_at}
@@ -15,7 +15,6 @@ use Rattle.symbol_table.specs.declared.law.Kind.{Kind}
 use Rattle.symbol_table.specs.declared.law.Kind.TheVariants.{Fails, Overflow}
 use Rattle.symbol_table.specs.declared.law.Event.{Event}
 use Rattle.law_events.specs.First.{first_event}
-use Rattle.law_events.specs.Stated.{product3_at, add_product3_at}
 
 -- Overflow where a side stops, Fails where both have values that differ
 abbrev pub judged : {E : Type 0} → Held E → Option E → Option E → Option Kind

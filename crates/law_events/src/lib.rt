@@ -13,5 +13,5 @@
 mod items;
 mod judge;
 
-pub use items::{add_product3, compare, product3};
+pub use items::compare;
 pub use judge::{Judge, first};

@@ -3,10 +3,9 @@ use Rattle.std.proofs.Common.{◌≡◌, ℕ, Bool, true, false, ◌&&◌, refl,
 use Rattle.std.specs.Prelude.{if◌then◌else◌, IsTrue, slice_index, Some}
 use Rattle.ring_laws.specs.Ring.{Ring, Held, RingLaws}
 use Rattle.ring_laws.specs.Sums.{total}
-use Rattle.ring_laws.specs.Stated.{product_at}
+use Rattle.ring_laws.specs.Stated.{product_at, add_product3_at}
 use Rattle.symbol_table.specs.Symbols.{Symbols, Given, symbols_of}
 use Rattle.symbol_table.specs.declared.law.Law.TheVariants.{Pentagon}
-use Rattle.law_events.specs.Stated.{add_product3_at}
 use Rattle.law_events.specs.Sides.{pentagon_left, pentagon_right, pentagon_step}
 use Rattle.law_events.specs.Verdicts.{JudgesRight}
 use Rattle.law_events.proofs.Values.{Evaluates, given_is, product_is, add_product3_is, same_where_none, never_fails, step_is, steps_are}

@@ -6,8 +6,8 @@ ghost use Rattle.symbol_table.specs.Category.{draft_symbols};
 ghost use Rattle.law_events.specs.Sides.{pentagon, pentagon_left, pentagon_right, pentagon_step};
 
 use fusion_rules::Rules;
-use law_events::{add_product3, compare};
-use ring_laws::{Overflow, StarRing};
+use law_events::compare;
+use ring_laws::{Overflow, StarRing, add_product3, sum_over_labels};
 use symbol_table::{Draft, Kind};
 
 /// F(x,m,r,z;y,f) F(p,l,f,z;x,q), and 0 where f doesn't fuse with x to z.
@@ -63,7 +63,6 @@ fn add_term<R: StarRing>(
 }
 
 /// The sum of the terms, in the order of the labels.
-#[tactic(auto, using(ring_laws::proofs::StatedLemmas::steps_one, ring_laws::proofs::StatedLemmas::steps_none))]
 fn right<R: StarRing>(draft: &Draft<R>, at: &[u8]) -> Result<R::Elem, Overflow>
     requires long { length at.now ≡ 9 }
     requires labels { All (λ t. t < draft.now.rules.count) at.now }
@@ -71,11 +70,9 @@ fn right<R: StarRing>(draft: &Draft<R>, at: &[u8]) -> Result<R::Elem, Overflow>
         (at9 (pentagon_right (draft_symbols (R.ring draft.now.ring) R.held draft.now)) at.now) }
     ensures member { IfOk result (λ v. IsTrue ((R.ring draft.now.ring).member v)) }
 {
-    let mut sum = draft.ring().zero();
-    for e in 0..draft.rules().count() {
-        sum = add_term(draft, at, e, sum)?;
-    }
-    Ok(sum)
+    sum_over_labels(draft.ring(), draft.rules().count(), |e, sum| {
+        add_term(draft, at, e, sum)
+    })
 }
 
 /// What the pentagon tells at an index: the left side comes before the right one.

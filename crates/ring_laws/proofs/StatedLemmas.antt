@@ -1,11 +1,11 @@
 -- Stated evaluations: one step of a loop, and that what doesn't stop gives the sum that it states.
 use Rattle.std.proofs.Common.{◌≡◌, ℕ, zero, suc, ◌+◌, ◌-◌, ◌<◌, ◌≤◌, Bool, true, false, Option, Some, None, List, [], ◌∷◌, length, get_or, drop, refl, ap, sym, ◌∙◌, arith}
-use Rattle.std.specs.Prelude.{if◌then◌else◌, IsTrue}
+use Rattle.std.specs.Prelude.{if◌then◌else◌, IsTrue, IsErr, Result, Ok, Err}
 use Rattle.std.proofs.lemmas.List.{at_drop_more, at_drop_all}
 use Rattle.ring_laws.specs.Ring.{Ring, Held, RingLaws}
 use Rattle.ring_laws.specs.Sums.{total, sum_over}
 use Rattle.ring_laws.proofs.SumLemmas.{total_is}
-use Rattle.ring_laws.specs.Stated.{◌>>=◌, sum_at, product_at, conjugate_at, steps, steps_over}
+use Rattle.ring_laws.specs.Stated.{◌>>=◌, Gives, sum_at, product_at, conjugate_at, steps, steps_over}
 
 pub some_inj : {A : Type 0} (x y : A) → Some x ≡ Some y → x ≡ y
 some_inj x y e = cc
@@ -14,6 +14,11 @@ some_inj x y e = cc
 pub bind_some : {A B : Type 0} (o : Option A) (f : A → Option B) (y : B) → (o >>= f) ≡ Some y → (x : A) × (o ≡ Some x) × (f x ≡ Some y)
 bind_some None f y e = absurd (cc)
 bind_some (Some x) f y e = (x, refl, e)
+
+-- an error where the evaluation stops
+pub err_gives : {A F : Type 0} (r : Result A F) (o : Option A) → IsErr r → o ≡ None → Gives r o
+err_gives (Ok v) o h e = absurd cc
+err_gives (Err f) o h e = e
 
 guard_some : {A : Type 0} (b : Bool) (x y : A) → (if b then Some x else None) ≡ Some y → y ≡ x
 guard_some true x y e = cc

@@ -28,6 +28,18 @@ add_product_at r sum x y = do
   product ← product_at r x y
   sum_at r sum product
 
+-- (x y) z
+abbrev pub product3_at : {E : Type 0} → Ring E → E → E → E → Option E
+product3_at r x y z = do
+  first ← product_at r x y
+  product_at r first z
+
+-- the sum with (x y) z
+abbrev pub add_product3_at : {E : Type 0} → Ring E → E → E → E → E → Option E
+add_product3_at r sum x y z = do
+  product ← product3_at r x y z
+  sum_at r sum product
+
 -- n steps, one for each label from t on, each from what the one before it gave
 abbrev pub steps : {A : Type 0} → (ℕ → A → Option A) → ℕ → ℕ → A → Option A
 steps step t zero sum = Some sum

@@ -12,11 +12,12 @@
 
 ghost use Rattle.std.specs.Prelude.{◌≡◌, ◌↔◌, IsTrue, IsOk, IfOk};
 ghost use Rattle.ring_laws.specs.Ring.{Ring, Held, RingLaws};
-ghost use Rattle.ring_laws.specs.Stated.{Gives, add_product_at};
 
 pub mod laws;
+mod stated;
 mod whole;
 
+pub use stated::{add_product, add_product3, product3, sum_over_labels};
 pub use whole::{Int, Whole};
 
 /// The answer of a ring call is too large for the element type.
@@ -101,25 +102,6 @@ pub trait StarRing: Drop {
         ensures right_held { IsTrue (held.can_hold y.now) };
 
     ghost laws: { (r : Self) → RingLaws (ring r) held };
-}
-
-/// The sum and the product of two more members: first the product, then the sum with it.
-///
-/// Answers [`Overflow`] exactly where one of the two doesn't fit.
-pub fn add_product<R: StarRing>(
-    ring: &R,
-    sum: &R::Elem,
-    x: &R::Elem,
-    y: &R::Elem,
-) -> Result<R::Elem, Overflow>
-    requires first { IsTrue ((R.ring ring.now).member sum.now) }
-    requires left { IsTrue ((R.ring ring.now).member x.now) }
-    requires right { IsTrue ((R.ring ring.now).member y.now) }
-    ensures value { Gives result (add_product_at (R.ring ring.now) sum.now x.now y.now) }
-    ensures member { IfOk result (λ z. IsTrue ((R.ring ring.now).member z)) }
-{
-    let product = ring.mul(x, y)?;
-    ring.add(sum, &product)
 }
 
 /// Whether a member is zero.

@@ -66,3 +66,36 @@ fn a_product_on_top_of_a_sum(rt: HostRuntime) -> Result<(), Fail> {
     }
     Ok(())
 }
+
+#[test]
+fn three_factors_on_top_of_a_sum(rt: HostRuntime) -> Result<(), Fail> {
+    let rows = [
+        (5, 2, 3, 7, Ok(42), Ok(47)),
+        (1, MOST, 1, 1, Ok(MOST), Err(Overflow)),
+        (0, MOST, 2, 0, Err(Overflow), Err(Overflow)),
+    ];
+    for (sum, x, y, z, product, answer) in rows {
+        let (sum, x, y, z) = (int(sum)?, int(x)?, int(y)?, int(z)?);
+        assert_eq!(rt; product3(&Whole, &x, &y, &z).map(|v| v.get()), product);
+        assert_eq!(rt;
+            add_product3(&Whole, &sum, &x, &y, &z).map(|v| v.get()),
+            answer
+        );
+    }
+    Ok(())
+}
+
+fn with_square(label: u8, sum: Int) -> Result<Int, Overflow> {
+    let Some(x) = Int::new(i128::from(label)) else {
+        return Err(Overflow);
+    };
+    add_product(&Whole, &sum, &x, &x)
+}
+
+#[test]
+fn squares_of_the_labels_below_a_count(rt: HostRuntime) {
+    for (count, sum) in [(0, 0), (1, 0), (4, 14)] {
+        let answer = sum_over_labels(&Whole, count, |label, sum| with_square(label, sum));
+        assert_eq!(rt; answer.map(|v| v.get()), Ok(sum));
+    }
+}

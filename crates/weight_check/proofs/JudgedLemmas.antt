@@ -6,14 +6,13 @@ use Rattle.std.proofs.lemmas.List.Elements.{All-cons, All-nil, All-weaker}
 use Rattle.std.proofs.lemmas.List.Sums.{AllPass-from_list_all}
 use Rattle.ring_laws.specs.Ring.{Ring, Held, RingLaws}
 use Rattle.ring_laws.specs.Sums.{total}
-use Rattle.ring_laws.specs.Stated.{product_at, conjugate_at, add_product_at}
+use Rattle.ring_laws.specs.Stated.{product_at, product3_at, conjugate_at, add_product_at}
 use Rattle.symbol_table.specs.Symbols.{Symbols, Given, symbols_of}
 use Rattle.symbol_table.specs.Laws.{Equation, Same, Free, Holds, LawHolds, equation_of, identity_at, unit_f_says, unit_says, where_so, norm_r_says, inverse_f_says, inverse_h_says}
 use Rattle.symbol_table.specs.declared.law.Law.{Law}
 use Rattle.symbol_table.specs.declared.law.Law.TheVariants.{UnitF, UnitR, UnitW, RealW, InverseW, NormR, DeriveH, DeriveS, InverseF, InverseH, Rigid, Pentagon, HexagonOne, HexagonTwo}
 use Rattle.symbol_table.specs.declared.law.Kind.{Kind}
 use Rattle.symbol_table.specs.declared.law.Kind.TheVariants.{Fails, Overflow}
-use Rattle.law_events.specs.Stated.{product3_at}
 use Rattle.law_events.specs.Sides.{judged, evaluated, verdict, first_of, unit_f, unit_vertex, norm_r, norm_r_left, inverse_f, inverse_h, h_stated, s_stated, inverse_f_left, inverse_f_step, inverse_h_left, inverse_h_step}
 use Rattle.law_events.specs.Verdicts.{JudgesRight}
 use Rattle.law_events.proofs.Firsts.{no_verdict}

@@ -1,10 +1,9 @@
 -- The items of two laws.
 use Rattle.std.specs.Prelude.{ℕ, Option}
 use Rattle.ring_laws.specs.Ring.{Ring}
-use Rattle.ring_laws.specs.Stated.{◌>>=◌, conjugate_at}
+use Rattle.ring_laws.specs.Stated.{◌>>=◌, product3_at, conjugate_at}
 use Rattle.fusion_rules.specs.Check.{dual_of}
 use Rattle.symbol_table.specs.Symbols.{Symbols}
-use Rattle.law_events.specs.Stated.{product3_at}
 
 -- x conj(x) times a weight, from the left
 abbrev pub norm_at : {E : Type 0} → Ring E → E → E → Option E

@@ -5,8 +5,8 @@ ghost use Rattle.ring_laws.specs.Stated.{Gives, conjugate_at, product_at};
 ghost use Rattle.law_events.specs.Sides.{judged};
 ghost use Rattle.weight_check.specs.Items.{norm_at};
 
-use law_events::{compare, product3};
-use ring_laws::{Overflow, StarRing};
+use law_events::compare;
+use ring_laws::{Overflow, StarRing, product3};
 use symbol_table::Kind;
 
 /// Whether a member of a ring is 1.
