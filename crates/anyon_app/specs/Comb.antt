@@ -4,9 +4,9 @@ use Rattle.cyclo_core.specs.Ratio.{Ratio}
 use Rattle.category_text.specs.Named.{NamedSymbols}
 use Rattle.program_text.specs.Program.{Program}
 use Rattle.program_text.specs.Reading.{comb_program_of}
-use Rattle.comb_laws.specs.Comb.{commands_of}
+use Rattle.comb_run.specs.Comb.{commands_of}
 use Rattle.comb_laws.specs.Plans.{Outcomes, outcomes_of}
-use Rattle.comb_laws.specs.Evaluated.{evaluation_of}
+use Rattle.comb_run.specs.Evaluated.{evaluation_of}
 use Rattle.anyon_app.specs.declared.texts.Kind.TheVariants.{Category, Program as ProgramText}
 use Rattle.anyon_app.specs.Replies.{Reply, done}
 use Rattle.anyon_app.specs.Refusals.{too_long, not_built, turn_overflow}

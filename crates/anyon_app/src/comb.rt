@@ -17,7 +17,7 @@ use crate::report::report;
 use crate::stop::Stop;
 use crate::texts::{Kind, text};
 use category_text::Named;
-use comb_laws::{RunFault, comb_run};
+use comb_run::{RunFault, comb_run};
 use io_ports::Shelf;
 use program_text::{Plan, read_comb_program};
 use std::alloc::Global;

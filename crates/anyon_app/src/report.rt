@@ -3,10 +3,10 @@ ghost use Rattle.std.specs.Prelude.{◌≡◌, ◌++◌, IfOk, OnOk};
 ghost use Rattle.anyon_app.specs.Lines.{line_of, spaced_on};
 ghost use Rattle.anyon_app.specs.Refusals.{label_names};
 ghost use Rattle.anyon_app.specs.Report.{report_of, row_words};
-ghost use Rattle.comb_laws.specs.Comb.{outcomes_in};
+ghost use Rattle.comb_run.specs.Comb.{outcomes_in};
 
 use crate::refusals::label_name;
-use comb_laws::{Row, Rows};
+use comb_run::{Row, Rows};
 use cyclo_core::Cyclo;
 use cyclo_text::write_number;
 use fusion_rules::Names;

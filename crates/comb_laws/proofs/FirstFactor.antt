@@ -7,14 +7,16 @@ use Rattle.ring_laws.specs.Ring.{Ring, RingLaws}
 use Rattle.ring_laws.specs.Sums.{sum_over}
 use Rattle.symbol_table.specs.Symbols.{Symbols}
 use Rattle.tree_shapes.specs.Labelled.{leaves}
+use Rattle.program_text.specs.Letters.{measurements, letters}
 use Rattle.program_text.specs.declared.plan.Command.{Command}
 use Rattle.comb_laws.specs.Paths.{Path, Vector, labels, ways, paths}
 use Rattle.comb_laws.specs.Operators.{weights_along, path_weight, weight}
 use Rattle.comb_laws.specs.Amplitudes.{own_vector}
-use Rattle.comb_laws.specs.Plans.{after, measurements, words, rows_from}
+use Rattle.comb_laws.specs.Words.{word_state, comb_acts}
+use Rattle.comb_laws.specs.Plans.{words, rows_from}
 use Rattle.comb_laws.specs.Inner.{inner_path_weight, inner_weight}
 use Rattle.comb_laws.specs.Laws.{StartsAtOwnPath, FirstFactorIsOne, OutcomesAreInner}
-use Rattle.comb_laws.proofs.Gather.{along_append}
+use Rattle.comb_laws.proofs.PathFacts.{along_append}
 use Rattle.comb_laws.proofs.UnitLemmas.{IsUnital}
 
 -- what holds of the items of each list holds of those of all
@@ -67,7 +69,10 @@ module _ {E : Type 0} (c : Symbols E) (laws : RingLaws c.ring c.held) (unital : 
   abbrev rows_by : (List ℕ → Vector E → E) → List ℕ → Vector E → List Command → List (List ℕ × E)
   rows_by weigh strands v commands =
       filter (λ row. not (c.held.is_zero row.1))
-      (map (λ word. (word, weigh (after c commands word strands v).0 (after c commands word strands v).1)) (words c.count (measurements commands)))
+      (map (λ word. (word, weigh (end word).0 (end word).1)) (words c.count (measurements commands)))
+    where
+      end : List ℕ → List ℕ × Vector E
+      end word = word_state (comb_acts c) word (letters 0 commands) (strands, v)
 
   pub outcomes_same : StartsAtOwnPath c → OutcomesAreInner c
   outcomes_same own tree commands is =

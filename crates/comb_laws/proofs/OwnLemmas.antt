@@ -15,7 +15,7 @@ use Rattle.program_text.specs.Form.{labels_below}
 use Rattle.comb_laws.specs.Paths.{Path, goes_on, is_path}
 use Rattle.comb_laws.specs.Amplitudes.{path_amplitude, own_path, own_vector}
 use Rattle.comb_laws.specs.Laws.{StartsAtOwnPath}
-use Rattle.comb_laws.proofs.Gather.{and_true, same_path, path_along}
+use Rattle.comb_laws.proofs.PathFacts.{and_true, same_path, path_along}
 use Rattle.comb_laws.proofs.StartLemmas.{length-leaves, length-own, own_is_path, LeftStart, left_start}
 use Rattle.comb_laws.proofs.UnitLemmas.{IsUnital, mark}
 

@@ -10,7 +10,7 @@ use Rattle.program_text.specs.Form.{labels_below, is_comb_start}
 use Rattle.comb_laws.specs.Paths.{goes_on, is_path}
 use Rattle.comb_laws.specs.Amplitudes.{own_path}
 use Rattle.comb_laws.specs.Laws.{is_left_start}
-use Rattle.comb_laws.proofs.Gather.{and_true}
+use Rattle.comb_laws.proofs.PathFacts.{and_true}
 
 pub length-leaves : (t : Labelled) → length (leaves t) ≡ size t
 length-leaves (Strand a) = refl

@@ -12,7 +12,7 @@ use Rattle.symbol_table.specs.Laws.{IsLawful}
 use Rattle.symbol_table.proofs.LawLemmas.{obeys}
 use Rattle.symbol_table.specs.Category.{draft_symbols}
 use Rattle.symbol_table.specs.declared.law.Law.TheVariants.{UnitF, UnitW, InverseW}
-use Rattle.comb_laws.proofs.Gather.{and_true}
+use Rattle.comb_laws.proofs.PathFacts.{and_true}
 
 -- one where a test is true, else zero
 abbrev pub mark : {E : Type 0} → Ring E → Bool → E
@@ -56,6 +56,13 @@ module _ (g : Fusion) (rules : AreRules g) where
         | inr within ↦ rw (is_below 0 g.count rules.some, is_below b g.count low, is_below e g.count within.1) (rules.left_unit b e low within.1)
       ]
 
+  -- the unit times a label is that label
+  pub unit_times : (a : ℕ) → a < g.count → fuses g 0 a a ≡ true
+  unit_times a low = unit_fuse a a low ∙ same
+    where
+      same : (a == a) ≡ true
+      same = grind (arith, nat_tests)
+
 -- values of a ring
 module _ {E : Type 0} {R : Ring E} {H : Held E} (laws : RingLaws R H) where
   abbrev x : E → E → E
@@ -95,10 +102,7 @@ module _ {D E : Type 0} (ring : Ring E) (held : Held E) (laws : RingLaws ring he
   all_three a b e low = All-from_recursion (λ t. t < c.count) (a ∷ b ∷ e ∷ []) (low.0, (low.1, (low.2, tt)))
 
   unit_here : (a : ℕ) → a < c.count → c.fuse 0 a a ≡ true
-  unit_here a low = unit_fuse draft.rules rules a a low ∙ same
-    where
-      same : (a == a) ≡ true
-      same = grind (arith, nat_tests)
+  unit_here a low = unit_times draft.rules rules a low
 
   unit_weight : (b e : ℕ) → c.fuse 0 b e ≡ true → c.w 0 b e ≡ ring.one
   unit_weight b e is = obeys c lawful UnitW (0 ∷ b ∷ e ∷ []) refl (all_three 0 b e (fuse_labels draft.rules rules 0 b e is)) (rw is refl)

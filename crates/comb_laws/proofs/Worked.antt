@@ -1,5 +1,5 @@
 -- Worked values, by computing the definitions.
-use Rattle.std.specs.Prelude.{◌≡◌, [], ◌∷◌, pos, negsuc, Ok, refl, slice_index}
+use Rattle.std.specs.Prelude.{◌≡◌, [], ◌∷◌, pos, negsuc, refl, slice_index}
 use Rattle.comb_laws.specs.Paths.{paths}
 use Rattle.comb_laws.specs.Operators.{path_weight}
 use Rattle.comb_laws.specs.Amplitudes.{path_amplitude, start_vector, stands_for, own_vector, own_path}
@@ -7,11 +7,10 @@ use Rattle.symbol_table.specs.Symbols.{Symbols, symbols_of, s_of, h_of}
 use Rattle.tree_shapes.specs.Labelled.{Strand, Joined, leaves}
 use Rattle.comb_laws.specs.Plans.{rows_from, outcomes_of}
 use Rattle.comb_laws.specs.Inner.{inner_path_weight, inner_outcomes_of}
-use Rattle.comb_laws.specs.Evaluated.{evaluation_of}
 use Rattle.program_text.specs.declared.plan.Command.TheVariants.{Braid, Measure}
 use Rattle.program_text.specs.declared.plan.Sign.TheVariants.{Plus, Minus}
 use Rattle.symbol_table.proofs.Fib.{Whole5, num, fib, numbered, whole, ring5, held5, v_listed, inverse_golden}
-use Rattle.comb_laws.proofs.Fib.{lx, short, x, mixed, spread}
+use Rattle.comb_laws.proofs.Fib.{lx, x, mixed, spread}
 
 pub three_strands : paths fib (1 ∷ 1 ∷ 1 ∷ []) ≡ (0 ∷ 1 ∷ 0 ∷ 1 ∷ []) ∷ (0 ∷ 1 ∷ 1 ∷ 0 ∷ []) ∷ (0 ∷ 1 ∷ 1 ∷ 1 ∷ []) ∷ []
 three_strands = refl
@@ -30,14 +29,6 @@ pub braided_pair : outcomes_of fib lx (Braid 2 Plus ∷ Measure 1 ∷ [])
       rows = (0 ∷ [], num (pos 5) (pos 0) (pos 3) (pos 3)) ∷ (1 ∷ [], num (negsuc 2) (pos 0) (negsuc 1) (negsuc 1)) ∷ [];
     }
 braided_pair = refl
-
--- the stated evaluation has the same total and rows, where all items fit
-pub evaluated_pair : evaluation_of fib short (Measure 2 ∷ [])
-    ≡ Ok (record {
-      total = num (negsuc 0) (pos 0) (negsuc 0) (negsuc 0);
-      rows = (0 ∷ [], num (negsuc 2) (pos 0) (negsuc 1) (negsuc 1)) ∷ (1 ∷ [], num (pos 2) (pos 0) (pos 1) (pos 1)) ∷ [];
-    })
-evaluated_pair = refl
 
 -- a braid and its inverse
 pub braided_back : rows_from fib (1 ∷ 1 ∷ 1 ∷ 1 ∷ []) (stands_for fib (1 ∷ 1 ∷ 1 ∷ 1 ∷ []) (λ t. t) ((x, ring5.one) ∷ [])) (Braid 2 Plus ∷ Braid 2 Minus ∷ Measure 1 ∷ [])

@@ -8,7 +8,9 @@ use Rattle.tree_shapes.specs.Labelled.{Labelled, leaves}
 use Rattle.comb_laws.specs.Paths.{Path, Vector, paths}
 use Rattle.comb_laws.specs.Operators.{weights_along}
 use Rattle.comb_laws.specs.Amplitudes.{own_vector}
-use Rattle.comb_laws.specs.Plans.{Outcomes, after, measurements, words}
+use Rattle.comb_laws.specs.Words.{word_state, comb_acts}
+use Rattle.comb_laws.specs.Plans.{Outcomes, words}
+use Rattle.program_text.specs.Letters.{Letter, measurements, letters}
 use Rattle.program_text.specs.declared.plan.Command.{Command}
 
 -- w(x_1,s_2,x_2) .. w(x_(n-1),s_n,x_n), begun at one
@@ -24,16 +26,16 @@ inner_weight c strands v =
     (paths c strands)
 
 -- the inner weight of a word's vector
-abbrev pub inner_word_weight : {E : Type 0} → Symbols E → List ℕ → Vector E → List Command → List ℕ → E
-inner_word_weight c strands v commands word =
-    let end = after c commands word strands v in
+abbrev pub inner_word_weight : {E : Type 0} → Symbols E → List ℕ → Vector E → List Letter → List ℕ → E
+inner_word_weight c strands v ls word =
+    let end = word_state (comb_acts c) word ls (strands, v) in
     inner_weight c end.0 end.1
 
 -- the words whose inner weight isn't zero, each with that weight, in the order of lists of labels
 abbrev pub inner_rows_from : {E : Type 0} → Symbols E → List ℕ → Vector E → List Command → List (List ℕ × E)
 inner_rows_from c strands v commands =
     filter (λ row. not (c.held.is_zero row.1))
-    (map (λ word. (word, inner_word_weight c strands v commands word)) (words c.count (measurements commands)))
+    (map (λ word. (word, inner_word_weight c strands v (letters 0 commands) word)) (words c.count (measurements commands)))
 
 -- the inner weight of a left-combed tree's own vector, and the inner rows from it
 abbrev pub inner_outcomes_of : {E : Type 0} → Symbols E → Labelled → List Command → Outcomes E

@@ -1,11 +1,7 @@
 pub mod Amplitudes
-pub mod Comb
-pub mod Entries
-pub mod Evaluated
 pub mod Inner
 pub mod Laws
-pub mod Lives
-pub mod Operations
 pub mod Operators
 pub mod Paths
 pub mod Plans
+pub mod Words

@@ -5,6 +5,8 @@ use Rattle.symbol_table.specs.Symbols.{Symbols}
 use Rattle.comb_laws.specs.Paths.{Path, Vector, paths, is_path}
 use Rattle.program_text.specs.declared.plan.Sign.{Sign}
 use Rattle.program_text.specs.declared.plan.Sign.TheVariants.{Plus, Minus}
+use Rattle.comb_laws.specs.declared.operator.Operator.{Operator}
+use Rattle.comb_laws.specs.declared.operator.Operator.TheVariants.{Exchange, Project}
 
 -- the strand s_k, counted from 1
 abbrev pub strand : List ℕ → ℕ → ℕ
@@ -33,6 +35,16 @@ braid_kernel c sign p a b y t u =
 -- C(t,u) = F(p,a,b,y;t,q) H(p,a,b,y;q,u), for the charge q
 abbrev pub charge_kernel : {E : Type 0} → Symbols E → ℕ → Kernel E
 charge_kernel c q p a b y t u = c.ring.product (c.f p a b y t q) (c.h p a b y q u)
+
+-- what an operator multiplies by
+abbrev pub kernel_of : {E : Type 0} → Symbols E → Operator → Kernel E
+kernel_of c (Exchange sign) = braid_kernel c sign
+kernel_of c (Project q) = charge_kernel c q
+
+-- the strands that an operator at gap k leaves
+abbrev pub strands_after : Operator → List ℕ → ℕ → List ℕ
+strands_after (Exchange sign) strands k = swapped strands k
+strands_after (Project q) strands k = strands
 
 -- the term of the label t: the kernel from t to x_k, times the old value where x has t at place k
 abbrev pub term_at : {E : Type 0} → Symbols E → List ℕ → ℕ → Kernel E → Vector E → Path → ℕ → E

@@ -1,5 +1,5 @@
 -- Comb paths and vectors.
-use Rattle.std.specs.Prelude.{ℕ, zero, suc, Bool, true, false, ◌&&◌, List, [], ◌∷◌, ◌++◌, map, nat_lt, ◌==◌, if◌then◌else◌}
+use Rattle.std.specs.Prelude.{◌≡◌, ◌<◌, ◌+◌, All, length, ℕ, zero, suc, Bool, true, false, ◌&&◌, List, [], ◌∷◌, ◌++◌, map, nat_lt, ◌==◌, if◌then◌else◌}
 use Rattle.std.specs.List.{flat_map}
 use Rattle.symbol_table.specs.Symbols.{Symbols}
 
@@ -37,3 +37,8 @@ ways c p (s ∷ ss) =
 -- all paths over the strands, in the order of lists of labels
 abbrev pub paths : {E : Type 0} → Symbols E → List ℕ → List Path
 paths c strands = map (λ xs. zero ∷ xs) (ways c zero strands)
+
+-- a label below the count before the first of n strands and after each
+pub record IsAlong (count n : ℕ) (x : Path) : Type 0 where
+  pub long : length x ≡ n + 1
+  pub labels : All (λ l. l < count) x

@@ -4,6 +4,7 @@
 //! - *gap k*: lies between strand k and strand k + 1.
 //! - *plan*: a start tree, and sites with their commands, in the order of the text.
 //! - *program*: a plan as contracts see it (`specs/Program.antt`).
+//! - *letter*: what a command does to the vector of one word, with the place of its outcome (`specs/Letters.antt`).
 //! - *canonical text*: the one text of a program (`specs/Canonical.antt`).
 //! - *comb program*: a program with the one site `main`, an admissible left-combed start of 2 to 16 strands, and
 //!   braids with one measurement behind them (`specs/Form.antt`).

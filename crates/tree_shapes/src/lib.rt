@@ -47,3 +47,6 @@ fn is_leaf(tree: &Tree) -> bool
         Tree::Node(_) => false,
     }
 }
+
+#[cfg(test)]
+mod tests;

@@ -1,0 +1,66 @@
+-- The vector of a list of entries.
+use Rattle.std.specs.Prelude.{◌≡◌, not, is_some, slice_index, ◌++◌, ℕ, Bool, List, [], ◌∷◌, map, Option, Some, None, if◌then◌else◌, unwrap_or, true, false, IsTrue, slice_set}
+use Rattle.std.specs.Str.{bytes_eq}
+use Rattle.std.specs.List.{list_any, list_all, range_with_len}
+use Rattle.std.specs.Map.{keys_of}
+use Rattle.arrayvec.specs.ArrayVec.{ArrayVec}
+use Rattle.ring_laws.specs.Ring.{Ring, Held}
+use Rattle.symbol_table.specs.Symbols.{Symbols}
+use Rattle.comb_laws.specs.Paths.{Path, Vector, is_path, labels}
+
+-- what the entries have at a path
+abbrev pub entry_at : {E : Type 0} → List (ArrayVec ℕ × E) → Path → Option E
+entry_at [] x = None
+entry_at (e ∷ es) x = if bytes_eq x e.0.items then Some e.1 else entry_at es x
+
+-- an absent path has zero
+abbrev pub vector_of : {E : Type 0} → Ring E → List (ArrayVec ℕ × E) → Vector E
+vector_of r es x = unwrap_or (entry_at es x) r.zero
+
+-- a value is kept unless it is zero
+abbrev pub kept_of : {E : Type 0} → Held E → E → Option E
+kept_of h v = if h.is_zero v then None else Some v
+
+-- whether a path is one of these
+abbrev pub among : Path → List Path → Bool
+among x paths = list_any (λ y. bytes_eq y x) paths
+
+-- the path with each of n labels from u on at place k
+abbrev pub row_from : ℕ → ℕ → ℕ → Path → List Path
+row_from u n k x = map (λ l. slice_set x k l) (range_with_len u n)
+
+-- the paths that agree with this one at all places but k
+abbrev pub row_of : ℕ → ℕ → Path → List Path
+row_of count k x = row_from 0 count k x
+
+-- whether a path is the first of its row that has an entry: no smaller label at place k has one
+abbrev pub is_first : {E : Type 0} → List (ArrayVec ℕ × E) → ℕ → Path → Bool
+is_first es k x = list_all (λ l. not (is_some (entry_at es (slice_set x k l)))) (labels (slice_index x k))
+
+-- the rows of those of these paths that are the first of theirs
+abbrev pub rows_of_first : {E : Type 0} → ℕ → ℕ → List (ArrayVec ℕ × E) → List (ArrayVec ℕ) → List Path
+rows_of_first count k es [] = []
+rows_of_first count k es (p ∷ ps) =
+    if is_first es k p.items then row_of count k p.items ++ rows_of_first count k es ps else rows_of_first count k es ps
+
+-- the paths that agree with one that has an entry at all places but k, each row once
+abbrev pub targets_of : {E : Type 0} → ℕ → ℕ → List (ArrayVec ℕ × E) → List Path
+targets_of count k es = rows_of_first count k es (keys_of es)
+
+-- the labels of each of these paths
+abbrev pub items_of : List (ArrayVec ℕ) → List Path
+items_of ps = map (λ p. p.items) ps
+
+-- what is there once these paths are done, of the vector v
+abbrev pub gathered : {E : Type 0} → Held E → Vector E → List Path → Path → Option E
+gathered h v done x = if among x done then kept_of h (v x) else None
+
+-- every value is of the ring
+abbrev pub AreMembers : {E : Type 0} → Ring E → List (ArrayVec ℕ × E) → Type 0
+AreMembers {E} r es = (x : Path) (v : E) → entry_at es x ≡ Some v → IsTrue (r.member v)
+
+-- The entries are those of a vector over the strands: members that aren't zero, at paths.
+pub record AreEntries {E : Type 0} (c : Symbols E) (strands : List ℕ) (es : List (ArrayVec ℕ × E)) : Type 0 where
+  pub members : AreMembers c.ring es
+  pub paths : (x : Path) (v : E) → entry_at es x ≡ Some v → is_path c strands x ≡ true
+  pub nonzero : (x : Path) (v : E) → entry_at es x ≡ Some v → c.held.is_zero v ≡ false

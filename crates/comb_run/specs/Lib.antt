@@ -1,0 +1,5 @@
+pub mod Comb
+pub mod Entries
+pub mod Evaluated
+pub mod Lives
+pub mod Operations

@@ -1,0 +1,74 @@
+//! The engine's call: a comb program in a category.
+
+ghost use Rattle.std.specs.Prelude.{◌≡◌, ◌<◌, ◌≤◌, length, IfOk, true};
+ghost use Rattle.fusion_rules.specs.Fusion.{fuses};
+ghost use Rattle.symbol_table.specs.Category.{draft_symbols};
+ghost use Rattle.symbol_table.specs.Category.{draft_symbols};
+ghost use Rattle.tree_shapes.specs.Views.{labelled};
+ghost use Rattle.tree_shapes.specs.Labelled.{leaves, size};
+ghost use Rattle.program_text.specs.Program.{program_of};
+ghost use Rattle.program_text.specs.Form.{is_comb_program, is_comb_start, is_measured_braid};
+ghost use Rattle.comb_run.specs.Comb.{commands_of, outcomes_in};
+ghost use Rattle.comb_laws.specs.Plans.{outcomes_of};
+ghost use Rattle.comb_run.specs.Evaluated.{evaluation_of};
+ghost use Rattle.comb_run.specs.Lives.{Runs};
+
+use crate::rows::{Rows, RunFault};
+use crate::run::run;
+use crate::start::{Strands, own_vector, push_leaves};
+use comb_laws::laws::left_comb_start;
+use program_text::{Command, Plan};
+use ring_laws::{Overflow, StarRing};
+use std::alloc::Global;
+use symbol_table::Category;
+use tree_shapes::Tree;
+
+/// Runs commands from a left-combed tree.
+fn comb_rows<R: StarRing>(
+    alloc: Global,
+    category: &Category<R>,
+    tree: &Tree,
+    commands: &[Command],
+) -> Result<Rows<R>, RunFault>
+    requires start { is_comb_start (fuses category.now.rules) category.now.rules.count (labelled tree.now) ≡ true }
+    requires form { is_measured_braid (size (labelled tree.now)) commands.now ≡ true }
+    requires few { length commands.now ≤ 4096 }
+    ensures { let c = draft_symbols (R.ring category.now.ring) R.held category.now in
+        Runs outcomes_in result (evaluation_of c (labelled tree.now) commands.now) }
+{
+    // Tells that there are labels, and that the unit times a label is that label.
+    let _count = category.rules().count();
+    let mut strands = Strands::new();
+    push_leaves(tree, &mut strands);
+    let Ok(vector) = own_vector(alloc, category, tree) else {
+        return Err(RunFault::Memory);
+    };
+    let Ok(total) = vector.weight(category, strands.as_slice()) else {
+        return Err(RunFault::Overflow { turn: 0 });
+    };
+    let list = run(alloc, category, commands, strands, vector)?;
+    Ok(Rows { total, list })
+}
+
+/// The total and the rows of a comb program in a category.
+///
+/// The program has the one site with all strands, an admissible left-combed start of 2 to 16 strands, and at most
+/// 4,096 commands: braids, and one measurement behind them. `Overflow` comes exactly at the turn of the first item
+/// that doesn't fit: turn 0 evaluates the total, each command is a turn, and the turn after the last one evaluates
+/// the weights of the outcomes. The conventions are those of Kitaev 2006, Appendix E.
+pub fn comb_run<R: StarRing>(
+    alloc: Global,
+    category: &Category<R>,
+    plan: &Plan,
+) -> Result<Rows<R>, RunFault>
+    requires form { is_comb_program (fuses category.now.rules) category.now.rules.count (program_of plan.now) ≡ true }
+    // The total and the rows are those of the comb operators on the start's path amplitudes.
+    ensures rows { let c = draft_symbols (R.ring category.now.ring) R.held category.now in
+        IfOk result (λ rows. outcomes_in rows ≡ outcomes_of c (labelled plan.now.start) (commands_of (program_of plan.now))) }
+    // It stops exactly where the stated evaluation does.
+    ensures evaluated { let c = draft_symbols (R.ring category.now.ring) R.held category.now in
+        Runs outcomes_in result (evaluation_of c (labelled plan.now.start) (commands_of (program_of plan.now))) }
+{
+    left_comb_start(category);
+    comb_rows(alloc, category, &plan.start, &plan.sites[0].commands)
+}

@@ -1,0 +1,22 @@
+//! The engine of braid programs on left-combed fusion trees, by path.
+//!
+//! Glossary:
+//! - *entries*: a comb vector by the paths whose value isn't zero (`specs/Entries.antt`).
+//! - *stated evaluation*: which products, sums and conjugates arise, in their order (`specs/Evaluated.antt`).
+//! - *live word*: the outcomes so far, and their vector (`specs/Evaluated.antt`, `specs/Lives.antt`).
+//! - *comb run*: the total and the rows of a comb program in a category (`comb_run`).
+#![tactic(auto)]
+
+mod act;
+mod comb;
+mod fault;
+mod kernel;
+mod live;
+mod rows;
+mod run;
+mod start;
+mod vector;
+mod weigh;
+
+pub use comb::comb_run;
+pub use rows::{Row, Rows, RunFault};

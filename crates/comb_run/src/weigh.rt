@@ -1,0 +1,92 @@
+//! The weight of a comb vector.
+
+ghost use Rattle.std.specs.Prelude.{◌≡◌, ◌<◌, List, All, IsTrue, IfOk, Some, true};
+ghost use Rattle.ring_laws.specs.Stated.{Gives};
+ghost use Rattle.symbol_table.specs.Category.{draft_symbols};
+ghost use Rattle.comb_laws.specs.Paths.{goes_on, is_path};
+ghost use Rattle.comb_run.specs.Evaluated.{weights_along_at, path_weight_at, weight_term_at};
+
+use crate::vector::Path;
+use ring_laws::{Overflow, StarRing};
+use symbol_table::{Category, VIndex};
+
+/// A product times the weights along the strands, from the label p on.
+fn weights_along<R: StarRing>(
+    category: &Category<R>,
+    begun: R::Elem,
+    p: u8,
+    strands: &[u8],
+    labels: &[u8],
+) -> Result<R::Elem, Overflow>
+    requires begun { IsTrue ((R.ring category.now.ring).member begun) }
+    requires path { goes_on (draft_symbols (R.ring category.now.ring) R.held category.now) p strands.now labels.now ≡ true }
+    ensures value { Gives result (weights_along_at (draft_symbols (R.ring category.now.ring) R.held category.now) begun p strands.now labels.now) }
+    ensures member { IfOk result (λ z. IsTrue ((R.ring category.now.ring).member z)) }
+{
+    let [s, ss @ ..] = strands else {
+        return Ok(begun);
+    };
+    let [x, xs @ ..] = labels else {
+        return Ok(begun);
+    };
+    let weight = category.w(&VIndex { a: p, b: *s, c: *x });
+    let next = category.ring().mul(&begun, &weight)?;
+    weights_along(category, next, *x, ss, xs)
+}
+
+/// The product of the weights along a path, begun after the first strand.
+fn path_weight<R: StarRing>(
+    category: &Category<R>,
+    strands: &[u8],
+    path: &[u8],
+) -> Result<R::Elem, Overflow>
+    requires { is_path (draft_symbols (R.ring category.now.ring) R.held category.now) strands.now path.now ≡ true }
+    ensures value { Gives result (path_weight_at (draft_symbols (R.ring category.now.ring) R.held category.now) strands.now path.now) }
+    ensures member { IfOk result (λ z. IsTrue ((R.ring category.now.ring).member z)) }
+{
+    let [_, ss @ ..] = strands else {
+        return Ok(category.ring().one());
+    };
+    let [_, x, xs @ ..] = path else {
+        return Ok(category.ring().one());
+    };
+    weights_along(category, category.ring().one(), *x, ss, xs)
+}
+
+/// One more path of a weight.
+fn weight_term<R: StarRing>(
+    ring: &R,
+    weights: &R::Elem,
+    value: &R::Elem,
+    sum: &R::Elem,
+) -> Result<R::Elem, Overflow>
+    requires weights { IsTrue ((R.ring ring.now).member weights.now) }
+    requires value { IsTrue ((R.ring ring.now).member value.now) }
+    requires sum { IsTrue ((R.ring ring.now).member sum.now) }
+    ensures value { Gives result (weight_term_at (R.ring ring.now) (Some weights.now) value.now sum.now) }
+    ensures member { IfOk result (λ z. IsTrue ((R.ring ring.now).member z)) }
+{
+    let turned = ring.conj(value)?;
+    let square = ring.mul(value, &turned)?;
+    let term = ring.mul(weights, &square)?;
+    ring.add(sum, &term)
+}
+
+/// A sum with the term of one path more.
+pub(crate) fn add_path<R: StarRing>(
+    category: &Category<R>,
+    strands: &[u8],
+    path: &Path,
+    value: &R::Elem,
+    sum: &R::Elem,
+) -> Result<R::Elem, Overflow>
+    requires path { is_path (draft_symbols (R.ring category.now.ring) R.held category.now) strands.now path.now.items ≡ true }
+    requires value { IsTrue ((R.ring category.now.ring).member value.now) }
+    requires sum { IsTrue ((R.ring category.now.ring).member sum.now) }
+    ensures value { let c = draft_symbols (R.ring category.now.ring) R.held category.now in
+        Gives result (weight_term_at c.ring (path_weight_at c strands.now path.now.items) value.now sum.now) }
+    ensures member { IfOk result (λ z. IsTrue ((R.ring category.now.ring).member z)) }
+{
+    let weights = path_weight(category, strands, path.as_slice())?;
+    weight_term(category.ring(), &weights, value, sum)
+}

@@ -1,0 +1,47 @@
+-- Letters: what each command does to the vector of a word of outcomes. The outcome of a measurement stands in the word
+-- at the measurement's place, so a letter says by itself which outcome it reads, whatever the order of the turns.
+use Rattle.std.specs.Prelude.{ℕ, suc, ◌+◌, List, [], ◌∷◌}
+use Rattle.program_text.specs.declared.plan.Sign.{Sign}
+use Rattle.program_text.specs.declared.plan.Command.{Command}
+use Rattle.program_text.specs.declared.plan.Command.TheVariants.{Braid, Raise, Measure}
+
+pub data Letter : Type 0 where
+  -- an exchange at gap k
+  Crossing : (k : ℕ) (sign : Sign) → Letter
+  -- a measurement of the charge at gap k, whose outcome stands at the place
+  Charge : (k place : ℕ) → Letter
+  -- an exchange at gap k on the words that have the label at the place
+  Tested : (k : ℕ) (sign : Sign) (place label : ℕ) → Letter
+  -- a raise at gap k, which no vector sees
+  Still : (k : ℕ) → Letter
+
+-- the gap of a letter
+abbrev pub gap_of : Letter → ℕ
+gap_of (Crossing k sign) = k
+gap_of (Charge k place) = k
+gap_of (Tested k sign place label) = k
+gap_of (Still k) = k
+
+-- how many outcomes a command has: one for a measurement
+abbrev pub outcomes_of : Command → ℕ
+outcomes_of (Braid k sign) = 0
+outcomes_of (Raise k) = 0
+outcomes_of (Measure k) = 1
+
+-- how many measurements there are
+abbrev pub measurements : List Command → ℕ
+measurements [] = 0
+measurements (Braid k sign ∷ cs) = measurements cs
+measurements (Raise k ∷ cs) = measurements cs
+measurements (Measure k ∷ cs) = suc (measurements cs)
+
+-- the letter of a command before which there are p measurements in the text
+abbrev pub letter_at : ℕ → Command → Letter
+letter_at p (Braid k sign) = Crossing k sign
+letter_at p (Raise k) = Still k
+letter_at p (Measure k) = Charge k p
+
+-- the letters of commands whose first measurement has the place p
+abbrev pub letters : ℕ → List Command → List Letter
+letters p [] = []
+letters p (c ∷ cs) = letter_at p c ∷ letters (p + outcomes_of c) cs
