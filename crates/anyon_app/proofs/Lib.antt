@@ -3,3 +3,4 @@ mod StageLemmas
 mod Puts
 mod Reached
 mod JudgeLemmas
+pub mod LawLemmas

@@ -2,15 +2,9 @@
 use Rattle.std.proofs.Common.{◌≡◌, ℕ, List, [], ◌∷◌, ◌++◌, append_assoc, codes, refl, ap, sym, ◌∙◌}
 use Rattle.std.proofs.lemmas.List.{append-nil}
 use Rattle.line_text.specs.Spelling.{spaced, spelled}
-use Rattle.anyon_app.specs.Lines.{line_of, spaced_on}
-
-pub spaced-cons : (word : List ℕ) (words : List (List ℕ)) → spaced (word ∷ words) ≡ word ++ spaced_on words
-spaced-cons word [] = sym (append-nil word)
-spaced-cons word (next ∷ words) = ap (λ l. word ++ 32 ∷ l) (spaced-cons next words)
-
-pub spaced_on-append : (xs ys : List (List ℕ)) → spaced_on (xs ++ ys) ≡ spaced_on xs ++ spaced_on ys
-spaced_on-append [] ys = refl
-spaced_on-append (x ∷ xs) ys = ap (λ l. 32 ∷ (x ++ l)) (spaced_on-append xs ys) ∙ ap (λ l. 32 ∷ l) (sym (append_assoc x (spaced_on xs) (spaced_on ys)))
+use Rattle.line_text.specs.Writing.{spaced_on}
+use Rattle.line_text.proofs.WritingLemmas.{spaced-cons, spaced_on-append}
+use Rattle.anyon_app.specs.Lines.{line_of}
 
 -- a first word, the words after it and an end are a line
 pub line_is : (first : List ℕ) (others : List (List ℕ)) → (first ++ spaced_on others) ++ 10 ∷ [] ≡ line_of (first ∷ others)

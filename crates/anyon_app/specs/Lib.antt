@@ -12,3 +12,4 @@ pub mod Comb
 pub mod Check
 pub mod Format
 pub mod Headline
+pub mod Laws

@@ -3,11 +3,6 @@ use Rattle.std.specs.Prelude.{ℕ, List, [], ◌∷◌, ◌++◌, codes}
 use Rattle.line_text.specs.Spelling.{spaced}
 use Rattle.anyon_app.specs.Replies.{Reply, refused, limited}
 
--- words with a space before each
-abbrev pub spaced_on : List (List ℕ) → List ℕ
-spaced_on [] = []
-spaced_on (word ∷ words) = 32 ∷ word ++ spaced_on words
-
 -- one line of words
 abbrev pub line_of : List (List ℕ) → List ℕ
 line_of words = spaced words ++ 10 ∷ []

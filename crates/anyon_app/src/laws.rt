@@ -1,10 +1,12 @@
-// What follows from the clauses of the top call alone.
+// What follows from the clauses of the top call, and from the definitions of its replies.
 ghost use Rattle.std.specs.Prelude.{◌≢◌, IsSome};
 ghost use Rattle.io_ports.specs.Memory.{files_of};
 ghost use Rattle.anyon_app.specs.Work.{reply_of};
 ghost use Rattle.anyon_app.specs.Headline.{work_of};
+ghost use Rattle.anyon_app.specs.Laws.{AcceptedIsLawful, FinishedIsLawful, FormatSettles, FormattedAlike, LawfulIsAccepted};
 
 use crate::{Status, anyon};
+use category_text::canonical_texts;
 use io_ports::{Sink, SureShelf};
 use std::alloc::Global;
 
@@ -20,4 +22,19 @@ pub fn over_sure_shelf<W: Sink>(
     ensures { result ≢ Status.ReadFault }
 {
     anyon(alloc, words, shelf, sink)
+}
+
+/// What `check`, `comb` and `format` say of categories, over the bytes of their texts.
+///
+/// What `check` accepts, and whatever `comb` finishes, has a category all of whose equations are true; a category all
+/// of whose equations are true and all of whose items fit is accepted. What `format` wrote is formatted to itself, as
+/// far as it isn't too long to be read, and texts that are formatted alike say the same category.
+pub fn category_replies()
+    ensures accepted { AcceptedIsLawful }
+    ensures complete { LawfulIsAccepted }
+    ensures finished { FinishedIsLawful }
+    ensures settled { FormatSettles }
+    ensures alike { FormattedAlike }
+{
+    canonical_texts();
 }

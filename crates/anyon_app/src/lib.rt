@@ -25,7 +25,7 @@ mod stop;
 mod texts;
 mod top;
 
-pub use laws::over_sure_shelf;
+pub use laws::{category_replies, over_sure_shelf};
 pub use status::Status;
 use stop::Stop;
 pub use top::anyon;

@@ -1,6 +1,7 @@
 // The report of the rows of a program.
 ghost use Rattle.std.specs.Prelude.{◌≡◌, ◌++◌, IfOk, OnOk};
-ghost use Rattle.anyon_app.specs.Lines.{line_of, spaced_on};
+ghost use Rattle.line_text.specs.Writing.{spaced_on};
+ghost use Rattle.anyon_app.specs.Lines.{line_of};
 ghost use Rattle.anyon_app.specs.Refusals.{label_names};
 ghost use Rattle.anyon_app.specs.Report.{report_of, row_words};
 ghost use Rattle.comb_run.specs.Comb.{outcomes_in};
@@ -10,6 +11,7 @@ use comb_run::{Row, Rows};
 use cyclo_core::Cyclo;
 use cyclo_text::write_number;
 use fusion_rules::Names;
+use line_text::write_word;
 use std::alloc::{AllocError, Global};
 
 /// The total, and then a line for each row.
@@ -49,8 +51,7 @@ pub fn write_labels(names: &Names, labels: &[u8], out: &mut Vec<u8>) -> Result<(
     ensures { OnOk result (out.new.items ≡ out.old.items ++ spaced_on (label_names names.now labels.now)) }
 {
     for label in labels {
-        out.push(b' ')?;
-        out.extend_from_slice(label_name(names, *label).as_bytes())?;
+        write_word(label_name(names, *label), out)?;
     }
     Ok(())
 }

@@ -1,5 +1,5 @@
 use Rattle.std.proofs.Common.{◌≡◌, ◌++◌, drop}
-use Rattle.anyon_app.specs.Lines.{spaced_on}
+use Rattle.line_text.specs.Writing.{spaced_on}
 use Rattle.anyon_app.specs.Refusals.{label_names}
 use Rattle.anyon_app.proofs.report.write_labels.Given as goal
 

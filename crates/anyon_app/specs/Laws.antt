@@ -1,0 +1,64 @@
+-- What replies say of categories, over the bytes of their texts.
+use Rattle.std.specs.Prelude.{◌≡◌, ◌≤◌, ℕ, List, length, Some, Ok}
+use Rattle.io_ports.specs.Ports.{Files}
+use Rattle.symbol_table.specs.Laws.{IsLawful}
+use Rattle.law_events.specs.Verdicts.{EveryItemFits}
+use Rattle.category_text.specs.Named.{NamedSymbols}
+use Rattle.category_text.specs.Reading.{category_of}
+use Rattle.category_text.specs.Again.{SameSymbols}
+use Rattle.anyon_app.specs.Replies.{done}
+use Rattle.anyon_app.specs.Work.{reply_of, text_limit}
+use Rattle.anyon_app.specs.Verdicts.{symbols_in}
+use Rattle.anyon_app.specs.Check.{accepted, check_work}
+use Rattle.anyon_app.specs.Comb.{comb_work}
+use Rattle.anyon_app.specs.Format.{format_work}
+
+-- The text of a name is there, is not too long, and is read as this category.
+pub record IsCategoryText (files : Files) (name : List ℕ) (named : NamedSymbols) : Type 0 where
+  pub text : List ℕ
+  pub there : files name ≡ Some text
+  pub short : length text ≤ text_limit
+  pub reads : category_of text ≡ Ok named
+
+-- the category of the text is lawful
+pub record HasLawfulText (files : Files) (name : List ℕ) : Type 0 where
+  pub named : NamedSymbols
+  pub is : IsCategoryText files name named
+  pub lawful : IsLawful (symbols_in named)
+
+-- what `check` accepts is read as a category all of whose equations are true
+abbrev pub AcceptedIsLawful : Type 0
+AcceptedIsLawful =
+    (files : Files) (name report : List ℕ) → reply_of (check_work name) files ≡ Some (done report) → HasLawfulText files name
+
+-- a category all of whose equations are true and all of whose items fit is accepted
+abbrev pub LawfulIsAccepted : Type 0
+LawfulIsAccepted =
+    (files : Files) (name : List ℕ) (named : NamedSymbols) → IsCategoryText files name named → IsLawful (symbols_in named)
+    → EveryItemFits (symbols_in named) → reply_of (check_work name) files ≡ Some (done (accepted named))
+
+-- whatever `comb` finishes, the category is lawful
+abbrev pub FinishedIsLawful : Type 0
+FinishedIsLawful =
+    (files : Files) (category program report : List ℕ) → reply_of (comb_work category program) files ≡ Some (done report)
+    → HasLawfulText files category
+
+-- what `format` wrote is formatted to itself, as far as it isn't too long to be read
+abbrev pub FormatSettles : Type 0
+FormatSettles =
+    (files later : Files) (name other report : List ℕ) → reply_of (format_work name) files ≡ Some (done report)
+    → later other ≡ Some report → length report ≤ text_limit → reply_of (format_work other) later ≡ Some (done report)
+
+-- two texts that say the same category, under two names
+pub record SayTheSame (files later : Files) (name other : List ℕ) : Type 0 where
+  pub first : NamedSymbols
+  pub second : NamedSymbols
+  pub first_is : IsCategoryText files name first
+  pub second_is : IsCategoryText later other second
+  pub same : SameSymbols first second
+
+-- texts that are formatted alike say the same category
+abbrev pub FormattedAlike : Type 0
+FormattedAlike =
+    (files later : Files) (name other report : List ℕ) → reply_of (format_work name) files ≡ Some (done report)
+    → reply_of (format_work other) later ≡ Some (done report) → SayTheSame files later name other
