@@ -17,7 +17,6 @@
 //!   `SameSymbols`).
 #![tactic(auto)]
 
-mod body;
 mod fault;
 mod head;
 mod kind;
@@ -25,6 +24,7 @@ mod laws;
 mod line_reading;
 mod named;
 mod reading;
+mod symbol_line;
 mod symbols;
 mod words;
 mod writing;
