@@ -1,16 +1,19 @@
 -- Worked values, by computing the definitions.
-use Rattle.std.specs.Prelude.{◌≡◌, [], ◌∷◌, pos, negsuc, refl, slice_index}
+use Rattle.std.specs.Prelude.{◌≡◌, [], ◌∷◌, pos, negsuc, Some, None, refl, slice_index}
 use Rattle.comb_laws.specs.Paths.{paths}
 use Rattle.comb_laws.specs.Operators.{path_weight}
 use Rattle.comb_laws.specs.Amplitudes.{path_amplitude, start_vector, stands_for, own_vector, own_path}
 use Rattle.symbol_table.specs.Symbols.{Symbols, symbols_of, s_of, h_of}
 use Rattle.tree_shapes.specs.Labelled.{Strand, Joined, leaves}
+use Rattle.comb_laws.specs.Words.{operator_on}
+use Rattle.comb_laws.specs.declared.operator.Operator.TheVariants.{Exchange}
 use Rattle.comb_laws.specs.Plans.{rows_from, outcomes_of}
 use Rattle.comb_laws.specs.Inner.{inner_path_weight, inner_outcomes_of}
+use Rattle.program_text.specs.Letters.{Tested}
 use Rattle.program_text.specs.declared.plan.Command.TheVariants.{Braid, Measure}
 use Rattle.program_text.specs.declared.plan.Sign.TheVariants.{Plus, Minus}
 use Rattle.symbol_table.proofs.Fib.{Whole5, num, fib, numbered, whole, ring5, held5, v_listed, inverse_golden}
-use Rattle.comb_laws.proofs.Fib.{lx, x, mixed, spread}
+use Rattle.comb_laws.proofs.Fib.{lx, short, x, mixed, spread}
 
 pub three_strands : paths fib (1 ∷ 1 ∷ 1 ∷ []) ≡ (0 ∷ 1 ∷ 0 ∷ 1 ∷ []) ∷ (0 ∷ 1 ∷ 1 ∷ 0 ∷ []) ∷ (0 ∷ 1 ∷ 1 ∷ 1 ∷ []) ∷ []
 three_strands = refl
@@ -29,6 +32,26 @@ pub braided_pair : outcomes_of fib lx (Braid 2 Plus ∷ Measure 1 ∷ [])
       rows = (0 ∷ [], num (pos 5) (pos 0) (pos 3) (pos 3)) ∷ (1 ∷ [], num (negsuc 2) (pos 0) (negsuc 1) (negsuc 1)) ∷ [];
     }
 braided_pair = refl
+
+-- two measurements, whose outcomes stand in the word in the order of the text
+pub two_outcomes : outcomes_of fib short (Measure 2 ∷ Measure 1 ∷ [])
+    ≡ record {
+      total = num (negsuc 0) (pos 0) (negsuc 0) (negsuc 0);
+      rows =
+          (0 ∷ 0 ∷ [], num (negsuc 7) (pos 0) (negsuc 4) (negsuc 4))
+          ∷ (0 ∷ 1 ∷ [], num (pos 5) (pos 0) (pos 3) (pos 3))
+          ∷ (1 ∷ 0 ∷ [], num (negsuc 2) (pos 0) (negsuc 1) (negsuc 1))
+          ∷ (1 ∷ 1 ∷ [], num (pos 5) (pos 0) (pos 3) (pos 3))
+          ∷ [];
+    }
+two_outcomes = refl
+
+-- an exchange with a test acts on the words that have the label at the place
+pub test_passed : operator_on (0 ∷ 1 ∷ []) (Tested 2 Plus 1 1) ≡ Some (Exchange Plus)
+test_passed = refl
+
+pub test_failed : operator_on (0 ∷ 1 ∷ []) (Tested 2 Plus 0 1) ≡ None
+test_failed = refl
 
 -- a braid and its inverse
 pub braided_back : rows_from fib (1 ∷ 1 ∷ 1 ∷ 1 ∷ []) (stands_for fib (1 ∷ 1 ∷ 1 ∷ 1 ∷ []) (λ t. t) ((x, ring5.one) ∷ [])) (Braid 2 Plus ∷ Braid 2 Minus ∷ Measure 1 ∷ [])

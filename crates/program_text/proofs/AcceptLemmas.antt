@@ -10,11 +10,12 @@ use Rattle.fusion_rules.specs.Names.{label_of}
 use Rattle.tree_shapes.specs.Labelled.{Labelled, Strand, Joined, size, is_left_comb, is_admissible}
 use Rattle.program_text.specs.declared.plan.Command.{Command}
 use Rattle.program_text.specs.Program.{Program}
-use Rattle.program_text.specs.Canonical.{name_of, opened, closed, tree_words, command_words, canonical_program}
+use Rattle.fusion_rules.specs.Names.{name_of}
+use Rattle.program_text.specs.Canonical.{opened, closed, tree_words, command_words, canonical_program}
 use Rattle.program_text.specs.Form.{labels_below, are_comb_commands, is_comb_start, is_comb_program}
 use Rattle.program_text.specs.Reading.{◌>>=◌, has_strands, without_opens, is_close, joint_of, joined_by, comb_of, start_of, first_line, commands_from, main_program, candidate, comb_program_of}
 use Rattle.program_text.specs.Parts.{tree_text, main_text}
-use Rattle.program_text.proofs.LabelLemmas.{label_small}
+use Rattle.fusion_rules.proofs.FoundLemmas.{label_below}
 use Rattle.program_text.proofs.FormLemmas.{main_form, main_spelled}
 use Rattle.program_text.proofs.StartLemmas.{strands_are}
 
@@ -36,8 +37,8 @@ joint_small names text j e = by_end (position is_close text) e
     by_labels end (Some a) None f g e = absurd (cc)
     by_labels end (Some a) (Some q) f g e =
         let same : (a, q) ≡ j = cc in (
-          ap (λ (k : ℕ × ℕ). ltb k.0 (length names)) (sym same) ∙ small_test a (length names) (label_small names (take end text) a f),
-          ap (λ (k : ℕ × ℕ). ltb k.1 (length names)) (sym same) ∙ small_test q (length names) (label_small names (drop 2 (drop end text)) q g),
+          ap (λ (k : ℕ × ℕ). ltb k.0 (length names)) (sym same) ∙ small_test a (length names) (label_below names (take end text) a f),
+          ap (λ (k : ℕ × ℕ). ltb k.1 (length names)) (sym same) ∙ small_test q (length names) (label_below names (drop 2 (drop end text)) q g),
         )
 
     by_end : (o : Option ℕ) → (o >>= λ (end : ℕ). label_of names (take end text) >>= λ (a : ℕ). label_of names (drop 2 (drop end text)) >>= λ (q : ℕ). Some (a, q)) ≡ Some j
@@ -72,7 +73,7 @@ start_form names words t e = by_count (has_strands words) refl e
     by_first : (o : Option ℕ) → label_of names (without_opens (word_in words 1)) ≡ o → has_strands words ≡ true → (o >>= λ (a : ℕ). joined_by names (Strand a) (drop 2 words)) ≡ Some t → IsReadStart (length names) t
     by_first None f has e = absurd (cc)
     by_first (Some a) f has e =
-        let one = joined_is names (Strand a) (drop 2 words) t 1 (record { comb = refl; below = small_test a (length names) (label_small names (without_opens (word_in words 1)) a f); counted = refl }) e in
+        let one = joined_is names (Strand a) (drop 2 words) t 1 (record { comb = refl; below = small_test a (length names) (label_below names (without_opens (word_in words 1)) a f); counted = refl }) e in
         let counted = strands_are words has in
         let rest = length-drop 2 words in
         record { some = omega (arith, one.counted, rest, counted.some); few = omega (arith, one.counted, rest, counted.few); comb = one.comb; below = one.below }

@@ -14,10 +14,11 @@ use Rattle.tree_shapes.specs.Labelled.{Labelled, Strand, Joined, is_left_comb}
 use Rattle.program_text.specs.declared.plan.Sign.TheVariants.{Plus, Minus}
 use Rattle.program_text.specs.declared.plan.Command.{Command}
 use Rattle.program_text.specs.declared.plan.Command.TheVariants.{Braid, Raise, Measure}
-use Rattle.program_text.specs.Canonical.{name_of, opened, tree_words, command_words}
+use Rattle.fusion_rules.specs.Names.{name_of}
+use Rattle.program_text.specs.Canonical.{opened, tree_words, command_words}
 use Rattle.program_text.specs.Form.{labels_below}
 use Rattle.program_text.specs.Reading.{◌>>=◌, without_opens, is_close, joint_of, joined_by, gap_of, command_of, commands_from}
-use Rattle.program_text.proofs.LabelLemmas.{label_again, name_at}
+use Rattle.fusion_rules.proofs.FoundLemmas.{label_again, name_at}
 use Rattle.program_text.proofs.WordLemmas.{both, gap_word}
 
 -- a name has no `(` in front

@@ -19,7 +19,7 @@ use Rattle.program_text.specs.Canonical.{tree_words, command_words, is_main, can
 use Rattle.program_text.specs.Form.{labels_below, is_comb_start, is_gap, is_measured_braid, are_comb_commands, are_comb_sites, is_comb_program}
 use Rattle.program_text.specs.Reading.{◌>>=◌, start_of, commands_from, main_site, main_program, candidate, comb_program_of}
 use Rattle.program_text.specs.Laws.{CombSound, CombComplete, CombOneText}
-use Rattle.program_text.proofs.LabelLemmas.{same_text}
+use Rattle.fusion_rules.proofs.FoundLemmas.{same_text}
 use Rattle.program_text.proofs.WordLemmas.{both, gap_word, AreTreeWords, comb_words}
 use Rattle.program_text.proofs.BackLemmas.{start_again, IsRead, AllRead, commands_again}
 

@@ -1,4 +1,3 @@
-pub mod LabelLemmas
 pub mod WordLemmas
 pub mod BackLemmas
 pub mod FormLemmas

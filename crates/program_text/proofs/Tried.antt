@@ -3,7 +3,8 @@ use Rattle.std.proofs.Common.{◌≡◌, ℕ, List, [], ◌∷◌, Bool, true, r
 use Rattle.std.specs.Fmt.{digits}
 use Rattle.tree_shapes.specs.Labelled.{Strand, Joined}
 use Rattle.program_text.specs.declared.plan.Sign.TheVariants.{Minus}
-use Rattle.program_text.specs.declared.plan.Command.TheVariants.{Braid, Measure}
+use Rattle.program_text.specs.declared.plan.Command.TheVariants.{Braid, Raise, Measure}
+use Rattle.program_text.specs.Letters.{Crossing, Charge, Still, letters}
 use Rattle.program_text.specs.Program.{Program}
 use Rattle.program_text.specs.Canonical.{canonical_program}
 use Rattle.program_text.specs.Reading.{comb_program_of, main_program}
@@ -31,3 +32,7 @@ two_spaces = refl
 gap_three : comb_program_of names 2 all (codes "program 1\nstart ((t t):1 t):t\nmeasure 3\n") ≡ None
 unfolding comb_program_of canonical_program digits names all
 gap_three = refl
+
+-- each measurement has a place of its own, and a raise has none
+places : letters 0 (Measure 1 ∷ Braid 2 Minus ∷ Raise 3 ∷ Measure 2 ∷ []) ≡ Charge 1 0 ∷ Crossing 2 Minus ∷ Still 3 ∷ Charge 2 1 ∷ []
+places = refl

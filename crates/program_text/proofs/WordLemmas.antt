@@ -10,9 +10,10 @@ use Rattle.line_text.specs.Spelling.{spaced, plain_bytes, is_plain_word, all_pla
 use Rattle.fusion_rules.specs.Names.{is_name, all_name_bytes, AreNames}
 use Rattle.fusion_rules.proofs.NameLemmas.{spelled}
 use Rattle.tree_shapes.specs.Labelled.{Labelled, Strand, Joined, size, is_left_comb}
-use Rattle.program_text.specs.Canonical.{name_of, opened, tree_words}
+use Rattle.fusion_rules.specs.Names.{name_of}
+use Rattle.program_text.specs.Canonical.{opened, tree_words}
 use Rattle.program_text.specs.Form.{labels_below}
-use Rattle.program_text.proofs.LabelLemmas.{name_at}
+use Rattle.fusion_rules.proofs.FoundLemmas.{name_at}
 
 name_bytes : (cs : List ℕ) → all_name_bytes cs ≡ true → plain_bytes cs ≡ true
 name_bytes [] e = refl

@@ -1,19 +1,16 @@
 -- The one text of a program.
-use Rattle.std.specs.Prelude.{ℕ, List, [], ◌∷◌, ◌++◌, Bool, ◌&&◌, ◌==◌, map, slice_index_or, codes, if◌then◌else◌}
+use Rattle.std.specs.Prelude.{ℕ, List, [], ◌∷◌, ◌++◌, Bool, ◌&&◌, ◌==◌, map, codes, if◌then◌else◌}
 use Rattle.std.specs.List.{flat_map}
 use Rattle.std.specs.Str.{bytes_eq}
 use Rattle.std.specs.Fmt.{decimal}
 use Rattle.line_text.specs.Spelling.{spelled}
+use Rattle.fusion_rules.specs.Names.{name_of}
 use Rattle.tree_shapes.specs.Labelled.{Labelled, Strand, Joined, size}
 use Rattle.program_text.specs.declared.plan.Sign.{Sign}
 use Rattle.program_text.specs.declared.plan.Sign.TheVariants.{Plus, Minus}
 use Rattle.program_text.specs.declared.plan.Command.{Command}
 use Rattle.program_text.specs.declared.plan.Command.TheVariants.{Braid, Raise, Measure}
 use Rattle.program_text.specs.Program.{Program, ProgramSite}
-
--- the name of a label
-abbrev pub name_of : List (List ℕ) → ℕ → List ℕ
-name_of names label = slice_index_or names label []
 
 -- words with `(` in front of the first
 abbrev pub opened : List (List ℕ) → List (List ℕ)

@@ -6,7 +6,8 @@ use Rattle.tree_shapes.specs.Views.{labelled}
 use Rattle.program_text.specs.declared.plan.Command.{Command}
 use Rattle.program_text.specs.declared.reading.Body.{Body}
 use Rattle.program_text.specs.Program.{Program}
-use Rattle.program_text.specs.Canonical.{name_of, command_words}
+use Rattle.fusion_rules.specs.Names.{name_of}
+use Rattle.program_text.specs.Canonical.{command_words}
 use Rattle.program_text.specs.Reading.{main_program}
 
 -- the program that was read, before its form and its spelling are judged
