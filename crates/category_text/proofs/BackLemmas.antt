@@ -17,7 +17,7 @@ use Rattle.symbol_table.specs.declared.index.VIndex.{VIndex}
 use Rattle.category_text.specs.declared.kind.Symbol.{Symbol}
 use Rattle.category_text.specs.declared.kind.Symbol.TheVariants.{OfF, OfR, OfW, OfV}
 use Rattle.category_text.specs.Named.{NamedSymbols, symbol_fault}
-use Rattle.category_text.specs.Reading.{SoFar, line_of, fuse_of, symbol_of, body_of, head_of, header_of, root_of, labels_of, begun, category_of}
+use Rattle.category_text.specs.Reading.{SoFar, line_of, fuse_of, symbol_of, body_of, front_of, head_of, header_of, root_of, labels_of, begun, category_of}
 use Rattle.category_text.specs.Answers.{SymbolBelow}
 use Rattle.category_text.specs.Canonical.{fuse_line}
 use Rattle.category_text.specs.Spelled.{symbol_words, fused_with, set_with, fused_all, set_all, FreshTriples, FreshSymbols, words_at, lines_over, SpelledAgain}
@@ -78,7 +78,7 @@ labels_again (n ∷ ns) are some =
 
 head_by : (a b c : ℕ) (header root_text labels : List ℕ) (rest : List Found) (count root : ℕ) (names : List (List ℕ)) → header_of (words_of header) ≡ Ok tt → root_of (words_of root_text) ≡ Ok root → labels_of (words_of labels) ≡ Ok names
     → head_of (record { ahead = Counted a header ∷ Counted b root_text ∷ Counted c labels ∷ rest; count = count }) ≡ Ok ((root, names), rest)
-unfolding head_of
+unfolding head_of front_of
 head_by a b c header root_text labels rest count root names e f g = rw (e, f, g) refl
 
 head_again : (root : ℕ) (names : List (List ℕ)) (rest : List Found) (a b c count : ℕ) → AreNames names → 0 < length names → is_accepted root ≡ true → root ≤ 60 → all_plain (codes "root" ∷ decimal root ∷ []) ≡ true → all_plain (codes "labels" ∷ names) ≡ true

@@ -10,6 +10,7 @@ use Rattle.cyclo_core.specs.Ratio.{Ratio, ring_at, is_held}
 use Rattle.cyclo_core.specs.RingAt.{ring_at_laws}
 use Rattle.cyclo_text.specs.NumberWords.{number_of}
 use Rattle.cyclo_text.specs.declared.fault.NumberWord.{NumberWord}
+use Rattle.fusion_rules.specs.declared.label.TheConstants.{LABEL_LIMIT}
 use Rattle.fusion_rules.specs.Fusion.{is_triple, unit_fuses, are_labels}
 use Rattle.fusion_rules.specs.Names.{AreNames, all_names, has_repeat, label_of}
 use Rattle.fusion_rules.proofs.FoundLemmas.{label_below}
@@ -29,7 +30,7 @@ use Rattle.category_text.specs.Named.{NamedSymbols, with_fusion, with_symbol, on
 use Rattle.category_text.specs.Canonical.{vertex_value}
 use Rattle.category_text.specs.Spelled.{fused_with, set_with}
 use Rattle.category_text.specs.Again.{IsNumberOf, IsSaid, AllSaid}
-use Rattle.category_text.specs.Reading.{◌>>=◌, SoFar, on_line, unless, sized, header_of, root_of, root_at, names_in, labels_of, label, named_by, labels_at, fused, fuse_of, number_place, symbol_at, may_set, numbered, symbol_of, line_kind, line_by, line_of, required, head_of, body_of, begun, category_of}
+use Rattle.category_text.specs.Reading.{◌>>=◌, SoFar, on_line, unless, sized, header_of, root_of, root_at, names_in, labels_of, label, named_by, labels_at, fused, fuse_of, number_place, symbol_at, may_set, numbered, symbol_of, line_kind, line_by, line_of, required, front_of, head_of, body_of, begun, category_of}
 use Rattle.category_text.proofs.IndexLemmas.{set_of, same_symbol, set_of_with, count_with, fuse_with}
 use Rattle.category_text.proofs.NumberLemmas.{number_said}
 use Rattle.category_text.proofs.SaidLemmas.{left_of}
@@ -229,9 +230,9 @@ names_ok (first ∷ []) names e = go (bytes_eq first (codes "labels")) e
     go : (b : Bool) → (if b then names_in [] else Err Labels) ≡ Ok names → AreRead names
     go true e = absurd (cc)
     go false e = absurd (cc)
-names_ok (first ∷ name ∷ more) names e = go (bytes_eq first (codes "labels")) (all_names (name ∷ more)) (nat_lt 12 (length (name ∷ more))) (has_repeat (name ∷ more)) refl refl refl e
+names_ok (first ∷ name ∷ more) names e = go (bytes_eq first (codes "labels")) (all_names (name ∷ more)) (nat_lt LABEL_LIMIT (length (name ∷ more))) (has_repeat (name ∷ more)) refl refl refl e
   where
-    go : (b spelled many repeat : Bool) → all_names (name ∷ more) ≡ spelled → nat_lt 12 (length (name ∷ more)) ≡ many → has_repeat (name ∷ more) ≡ repeat
+    go : (b spelled many repeat : Bool) → all_names (name ∷ more) ≡ spelled → nat_lt LABEL_LIMIT (length (name ∷ more)) ≡ many → has_repeat (name ∷ more) ≡ repeat
         → (if b then (if not spelled then Err Labels else (if many then Err Limit else (if repeat then Err Repeated else Ok (name ∷ more)))) else Err Labels) ≡ Ok names → AreRead names
     go false spelled many repeat s m r e = absurd (cc)
     go true false many repeat s m r e = absurd (cc)
@@ -254,17 +255,24 @@ grown_begun root names accepted read = record {
     below : (a b c : ℕ) → are_labels (length names) a b c ≡ true → AreThreeLabels (length names) a b c
     below a b c e = (grind (arith, nat_tests), grind (arith, nat_tests), grind (arith, nat_tests))
 
+front_ok : (text : Reading) (front : ℕ × (ℕ × (List (List ℕ) × List Found))) → front_of text ≡ Ok front → is_accepted front.0 ≡ true
+unfolding front_of
+front_ok text front e =
+    let first = then_ok (required _ text.count text.ahead) _ front e in
+    let header = then_ok (on_line first.0.0 (header_of first.0.1.0)) _ front first.2 in
+    let second = then_ok (required _ text.count first.0.1.1) _ front header.2 in
+    let root = then_ok (on_line second.0.0 (root_of second.0.1.0)) _ front second.2 in
+    let third = then_ok (required _ text.count second.0.1.1) _ front root.2 in
+    subst (λ (f : ℕ × (ℕ × (List (List ℕ) × List Found))). is_accepted f.0 ≡ true) (same_ok (root.0, third.0) front third.2)
+    (root_ok second.0.1.0 root.0 (on_line_ok second.0.0 (root_of second.0.1.0) root.0 root.1))
+
 head_ok : (text : Reading) (head : (ℕ × List (List ℕ)) × List Found) → head_of text ≡ Ok head → IsGrown (begun head.0.0 head.0.1).said
 unfolding head_of
 head_ok text head e =
-    let first = then_ok (required _ text.count text.ahead) _ head e in
-    let header = then_ok (on_line first.0.0 (header_of first.0.1.0)) _ head first.2 in
-    let second = then_ok (required _ text.count first.0.1.1) _ head header.2 in
-    let root = then_ok (on_line second.0.0 (root_of second.0.1.0)) _ head second.2 in
-    let third = then_ok (required _ text.count second.0.1.1) _ head root.2 in
-    let names = then_ok (on_line third.0.0 (labels_of third.0.1.0)) _ head third.2 in
-    subst (λ (h : (ℕ × List (List ℕ)) × List Found). IsGrown (begun h.0.0 h.0.1).said) (same_ok ((root.0, names.0), third.0.1.1) head names.2)
-    (grown_begun root.0 names.0 (root_ok second.0.1.0 root.0 (on_line_ok second.0.0 (root_of second.0.1.0) root.0 root.1)) (names_ok third.0.1.0 names.0 (on_line_ok third.0.0 (labels_of third.0.1.0) names.0 names.1)))
+    let front = then_ok (front_of text) _ head e in
+    let names = then_ok (on_line front.0.1.0 (labels_of front.0.1.1.0)) _ head front.2 in
+    subst (λ (h : (ℕ × List (List ℕ)) × List Found). IsGrown (begun h.0.0 h.0.1).said) (same_ok ((front.0.0, names.0), front.0.1.1.1) head names.2)
+    (grown_begun front.0.0 names.0 (front_ok text front.0 front.1) (names_ok front.0.1.1.0 names.0 (on_line_ok front.0.1.0 (labels_of front.0.1.1.0) names.0 names.1)))
 
 -- The whole text.
 pub all_said : AllSaid

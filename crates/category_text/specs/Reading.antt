@@ -186,16 +186,22 @@ required missing count [] = Err (record { line = count + 1; cause = missing })
 required missing count (Faulty number cause ∷ more) = Err (record { line = number; cause = Line cause })
 required missing count (Counted number text ∷ more) = Ok (number, (words_of text, more))
 
--- the root, the names, and what is found behind the labels
-unfoldable pub head_of : Reading → Result ((ℕ × List (List ℕ)) × List Found) Fault
-head_of text = do
+-- the root, and the line behind it
+unfoldable pub front_of : Reading → Result (ℕ × (ℕ × (List (List ℕ) × List Found))) Fault
+front_of text = do
   first ← required Header text.count text.ahead
   _ ← on_line first.0 (header_of first.1.0)
   second ← required Root text.count first.1.1
   root ← on_line second.0 (root_of second.1.0)
   third ← required Labels text.count second.1.1
-  names ← on_line third.0 (labels_of third.1.0)
-  Ok ((root, names), third.1.1)
+  Ok (root, third)
+
+-- the root, the names, and what is found behind the labels
+unfoldable pub head_of : Reading → Result ((ℕ × List (List ℕ)) × List Found) Fault
+head_of text = do
+  front ← front_of text
+  names ← on_line front.1.0 (labels_of front.1.1.0)
+  Ok ((front.0, names), front.1.1.1)
 
 -- line after line, each read over what those before it said
 abbrev pub body_of : SoFar → List Found → Result SoFar Fault

@@ -1,6 +1,6 @@
 ghost use Rattle.std.specs.Prelude.{◌≡◌, ◌<◌, [], List, drop, length, ◌==◌, ◌&&◌, Some, None, IfOk, if◌then◌else◌};
 ghost use Rattle.line_text.specs.Text.{words_of};
-ghost use Rattle.category_text.specs.Reading.{required, header_of, root_of, root_at, labels_of, head_of};
+ghost use Rattle.category_text.specs.Reading.{required, header_of, root_of, root_at, labels_of, front_of, head_of};
 ghost use Rattle.category_text.specs.Answers.{Says, Tells, TellsLines, Told, judged_of, kept_of};
 
 use crate::fault::{CategoryCause, CategoryFault, Refused, Stop, on_line, stop_on_line};
@@ -16,13 +16,22 @@ pub(crate) fn read_head(alloc: Global, lines: &mut Lines) -> Result<(Cyclo, Name
     ensures head { Told (λ head. ((head.0, head.1), lines.new.ahead)) result (head_of lines.old) }
     ensures some { IfOk result (λ head. 0 < length head.1) }
 {
+    let (ring, line) = read_front(lines)?;
+    let names = stop_on_line(line.number, read_labels(alloc, &line))?;
+    Ok((ring, names))
+}
+
+/// Reads the first two lines, and finds the third.
+#[tactic(auto, unfolding(crate::specs::Reading::front_of))]
+fn read_front<'a>(lines: &mut Lines<'a>) -> Result<(Cyclo, Line<'a>), Refused>
+    ensures front { TellsLines (λ front. (front.0, (front.1.number, (words_of front.1.text.now, lines.new.ahead)))) result (front_of lines.old) }
+{
     let line = required(lines, CategoryCause::Header)?;
     on_line(line.number, read_header(&line))?;
     let line = required(lines, CategoryCause::Root)?;
     let ring = on_line(line.number, read_root(&line))?;
     let line = required(lines, CategoryCause::Labels)?;
-    let names = stop_on_line(line.number, read_labels(alloc, &line))?;
-    Ok((ring, names))
+    Ok((ring, line))
 }
 
 /// A line that has to come.
