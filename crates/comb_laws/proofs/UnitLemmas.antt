@@ -9,6 +9,7 @@ use Rattle.fusion_rules.specs.Fusion.{Fusion, AreRules, fuses, are_labels}
 use Rattle.symbol_table.specs.Symbols.{Symbols, f_admissible}
 use Rattle.symbol_table.specs.Draft.{DraftValue}
 use Rattle.symbol_table.specs.Laws.{IsLawful}
+use Rattle.symbol_table.proofs.LawLemmas.{obeys}
 use Rattle.symbol_table.specs.Category.{draft_symbols}
 use Rattle.symbol_table.specs.declared.law.Law.TheVariants.{UnitF, UnitW, InverseW}
 use Rattle.comb_laws.proofs.Gather.{and_true}
@@ -100,15 +101,15 @@ module _ {D E : Type 0} (ring : Ring E) (held : Held E) (laws : RingLaws ring he
       same = grind (arith, nat_tests)
 
   unit_weight : (b e : ℕ) → c.fuse 0 b e ≡ true → c.w 0 b e ≡ ring.one
-  unit_weight b e is = lawful.laws UnitW (0 ∷ b ∷ e ∷ []) refl (all_three 0 b e (fuse_labels draft.rules rules 0 b e is)) (rw is refl)
+  unit_weight b e is = obeys c lawful UnitW (0 ∷ b ∷ e ∷ []) refl (all_three 0 b e (fuse_labels draft.rules rules 0 b e is)) (rw is refl)
 
   inverse_weight : (a b e : ℕ) → c.fuse a b e ≡ true → ring.product (c.w a b e) (c.v a b e) ≡ ring.one
-  inverse_weight a b e is = lawful.laws InverseW (a ∷ b ∷ e ∷ []) refl (all_three a b e (fuse_labels draft.rules rules a b e is)) (rw is refl)
+  inverse_weight a b e is = obeys c lawful InverseW (a ∷ b ∷ e ∷ []) refl (all_three a b e (fuse_labels draft.rules rules a b e is)) (rw is refl)
 
   unit_f : (l r q : ℕ) → c.fuse l r q ≡ true → c.f 0 l r q l q ≡ ring.one
   unit_f l r q is =
       let low = fuse_labels draft.rules rules l r q is in
-      lawful.laws UnitF (0 ∷ l ∷ r ∷ q ∷ l ∷ q ∷ []) refl
+      obeys c lawful UnitF (0 ∷ l ∷ r ∷ q ∷ l ∷ q ∷ []) refl
       (All-from_recursion (λ t. t < c.count) (0 ∷ l ∷ r ∷ q ∷ l ∷ q ∷ []) (rules.some, (low.0, (low.1, (low.2, (low.0, (low.2, tt)))))))
       (rw (unit_here l low.0, is, unit_here q low.2) refl)
 

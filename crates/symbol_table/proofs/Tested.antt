@@ -1,13 +1,14 @@
 -- Laws that hold since every index was tried.
 use Rattle.std.proofs.Common.{◌≡◌, ℕ, zero, suc, ◌<◌, Bool, true, false, ◌&&◌, ◌||◌, not, List, [], ◌∷◌, ◌++◌, length, refl, sym, ap, ◌∙◌, arith, append_assoc, append-nil, inl, inr, true≢false}
 use Rattle.std.specs.Prelude.{All}
+use Rattle.std.specs.List.{list_all}
 use Rattle.std.proofs.lemmas.Bool.{cases_eq}
-use Rattle.std.proofs.lemmas.List.Elements.{All-head, All-tail}
+use Rattle.std.proofs.lemmas.List.Elements.{All-head, All-tail, All-weaker}
+use Rattle.std.proofs.lemmas.List.Sums.{AllPass-from_list_all}
 use Rattle.ring_laws.specs.Ring.{Ring, Held}
 use Rattle.symbol_table.specs.Symbols.{Symbols}
 use Rattle.symbol_table.specs.Laws.{Equation, Same, NotZero, Free, Holds, LawHolds, equation_of, form_of, fuse_all}
 use Rattle.symbol_table.specs.declared.law.Law.{Law}
-use Rattle.symbol_table.specs.declared.law.Law.TheVariants.{UnitF, UnitR, UnitW, RealW, InverseW, NormR, DeriveH, DeriveS, InverseF, InverseH, Rigid, Pentagon, HexagonOne, HexagonTwo}
 
 -- each label below n
 abbrev pub all_below : ℕ → (ℕ → Bool) → Bool
@@ -29,11 +30,6 @@ is_met r held Free = true
 abbrev pub is_lawful_at : {E : Type 0} → Symbols E → Law → Bool
 is_lawful_at c law =
     all_over c.count (form_of law).places (λ i. not (fuse_all c.fuse i (form_of law).triples) || is_met c.ring c.held (equation_of c law i)) []
-
-abbrev pub all_laws : (Law → Bool) → Bool
-all_laws test =
-    test UnitF && test UnitR && test UnitW && test RealW && test InverseW && test NormR && test DeriveH && test DeriveS && test InverseF && test InverseH
-    && test Rigid && test Pentagon && test HexagonOne && test HexagonTwo
 
 both : (a b : Bool) → (a && b) ≡ true → (a ≡ true) × (b ≡ true)
 both true b h = (refl, h)
@@ -72,3 +68,9 @@ tried_law c sound complete law h i long below admissible =
     met_holds c.ring c.held sound complete (equation_of c law i)
     (by_admissible (fuse_all c.fuse i (form_of law).triples) (is_met c.ring c.held (equation_of c law i))
     (over_at c.count test [] i (ap (λ k. all_over c.count k test []) long ∙ h) below) admissible)
+
+-- and so each law of a list that was tried
+pub tried_laws : {E : Type 0} (c : Symbols E) → ((x y : E) → c.held.equal x y ≡ true → x ≡ y) → ((x y : E) → x ≡ y → c.held.equal x y ≡ true) → (laws : List Law)
+    → list_all (is_lawful_at c) laws ≡ true → All (LawHolds c) laws
+tried_laws c sound complete laws h =
+    All-weaker (λ law. is_lawful_at c law ≡ true) (LawHolds c) (tried_law c sound complete) laws (AllPass-from_list_all (is_lawful_at c) laws h)

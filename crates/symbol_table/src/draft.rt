@@ -1,7 +1,8 @@
 ghost use Rattle.std.specs.Prelude.{◌≡◌, ◌<◌, ◌≤◌, ℕ, [], IsTrue, OnOk, Option, Some, None, is_some, unwrap_or, if◌then◌else◌, List};
 ghost use Rattle.fusion_rules.specs.Fusion.{fuses};
 ghost use Rattle.symbol_table.specs.Index.{AreSixLabels, AreThreeLabels};
-ghost use Rattle.symbol_table.specs.Symbols.{f_of, vertex_of};
+ghost use Rattle.symbol_table.specs.Symbols.{IsOfRing, f_of, vertex_of};
+ghost use Rattle.symbol_table.specs.Category.{draft_symbols};
 ghost use Rattle.symbol_table.specs.Draft.{DraftValue, Sets, SetsF, SetsVertex, f_fault, f_index_admissible, given, vertex_fault, with_f, with_r, with_v, with_w};
 
 use crate::index::{FIndex, VIndex};
@@ -75,6 +76,14 @@ impl<R: StarRing> Draft<R> {
         ensures { result.now ≡ self.now.rules }
     {
         &self.rules
+    }
+
+    /// Every F of the draft is of its ring.
+    pub fn f_is_of_ring(&self)
+        ensures { IsOfRing (draft_symbols (R.ring self.now.ring) R.held self.now) }
+    {
+        // Opens what the draft keeps of its values.
+        let _ring = &self.ring;
     }
 
     /// F at an admissible index: the value that was set, or 1.
