@@ -1,5 +1,5 @@
 -- The checks in their order make the gate, and what the first fault says.
-use Rattle.std.proofs.Common.{◌≡◌, ◌++◌, Some, None, Option, refl, sym, ◌∙◌}
+use Rattle.std.proofs.Common.{◌≡◌, ◌++◌, ℕ, Some, None, Option, refl, sym, ◌∙◌}
 use Rattle.std.proofs.lemmas.Option.{none-some}
 use Rattle.std.specs.Option.{option_or}
 use Rattle.ring_laws.specs.Ring.{Ring, Held, RingLaws}
@@ -22,8 +22,8 @@ use Rattle.category_gate.specs.declared.GateFault.TheVariants as fault
 use Rattle.category_gate.specs.Order.{shape_laws}
 
 -- the two parts are the list
-in_parts : laws_of 1 ≡ weight_laws ++ shape_laws
-in_parts = refl
+in_parts : (version : ℕ) → laws_of version ≡ weight_laws ++ shape_laws
+in_parts version = refl
 
 module _ {E : Type 0} (c : Symbols E) where
   all_is : first_of_all c ≡ option_or (first_in c weight_laws) (first_in c shape_laws)
@@ -43,10 +43,10 @@ module _ {E : Type 0} (ring : Ring E) (held : Held E) (laws : RingLaws ring held
   c = symbols_of ring held g
 
   pub sound : IsSound c
-  sound rules none = record { rules = no_fault_passes c.count c.fuse rules; laws = all_hold c (judges_right ring held laws g) (laws_of 1) none }
+  sound rules none = record { rules = no_fault_passes c.count c.fuse rules; laws = all_hold c (judges_right ring held laws g) (laws_of c.version) none }
 
   pub complete : IsOfRing c → IsComplete c
-  complete are lawful fits = (passes_no_fault c.count c.fuse lawful.rules, none_where c (judges_right ring held laws g) are (laws_of 1) lawful.laws fits)
+  complete are lawful fits = (passes_no_fault c.count c.fuse lawful.rules, none_where c (judges_right ring held laws g) are (laws_of c.version) lawful.laws fits)
 
 -- where neither the rules have a fault nor the laws an event, a fault is want of memory
 pub memory_alone : {E : Type 0} (c : Symbols E) (found : GateFault) → IsFirst c found → rules_fault c.count c.fuse ≡ None → first_of_all c ≡ None → IsMemory found

@@ -1,7 +1,7 @@
 //! What the first fault says of the laws, both ways.
 
 ghost use Rattle.symbol_table.specs.Symbols.{Given, IsOfRing, symbols_of};
-ghost use Rattle.symbol_table.specs.Category.{draft_symbols};
+ghost use Rattle.symbol_table.specs.Category.{symbols};
 ghost use Rattle.category_gate.specs.Gate.{IsComplete, IsSound};
 
 use ring_laws::StarRing;
@@ -10,8 +10,8 @@ use symbol_table::Draft;
 /// Of any draft: without a fault of the rules and without an event of all laws it is lawful; and where it is lawful
 /// and every item fits there is neither.
 pub fn of_draft<R: StarRing>(draft: &Draft<R>)
-    ensures sound { IsSound (draft_symbols (R.ring draft.now.ring) R.held draft.now) }
-    ensures complete { IsComplete (draft_symbols (R.ring draft.now.ring) R.held draft.now) }
+    ensures sound { IsSound (symbols R.StarRing draft.now) }
+    ensures complete { IsComplete (symbols R.StarRing draft.now) }
 {
     // Says that the values are of the ring.
     draft.f_is_of_ring();

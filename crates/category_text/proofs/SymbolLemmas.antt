@@ -27,6 +27,7 @@ label_below names word a e = by_test (ltb (position_or_len (bytes_eq word) names
 -- rules of the unit triples alone
 pub begun_given : (rules : Fusion) (count : ℕ) → rules.count ≡ count → ((a b c : ℕ) → fuses rules a b c ≡ unit_fuses count a b c) → rules_given rules ≡ only_units count
 begun_given rules count counted triples = λ t. record {
+  version = 1;
   count = counted t;
   fuse = λ a b c. triples a b c t;
   set_f = λ a b c d e f. None;

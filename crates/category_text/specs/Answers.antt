@@ -52,6 +52,7 @@ told_at line (Err (Cause cause)) = Err (At line cause)
 -- the triples of rules, and no value
 abbrev pub rules_given : Fusion → Given Ratio
 rules_given rules = record {
+  version = 1;
   count = rules.count;
   fuse = fuses rules;
   set_f = λ a b c d e f. None;
@@ -62,7 +63,7 @@ rules_given rules = record {
 
 -- as a draft; rules alone have no value
 abbrev pub body_draft : Body → DraftValue ℕ Ratio
-body_draft (Fusing ring rules) = record { ring = ring; rules = rules; set_f = []; set_r = []; set_w = []; set_v = [] }
+body_draft (Fusing ring rules) = record { version = 1; ring = ring; rules = rules; set_f = []; set_r = []; set_w = []; set_v = [] }
 body_draft (Setting draft) = draft
 
 abbrev pub is_setting : Body → Bool

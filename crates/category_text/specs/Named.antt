@@ -26,6 +26,7 @@ seen named = named_draft named.names named.draft
 -- the unit triples of so many labels, and no value
 abbrev pub only_units : ℕ → Given Ratio
 only_units count = record {
+  version = 1;
   count = count;
   fuse = unit_fuses count;
   set_f = λ a b c d e f. None;

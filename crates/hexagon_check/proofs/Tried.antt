@@ -12,6 +12,7 @@ use Rattle.hexagon_check.specs.Exchange.{hexagon_laws}
 -- all labels fuse, and each symbol is another number: F is 1abcdef in digits, R is 2abc, w is 3abc, v is 4abc
 abbrev numbered : Symbols ℤ
 numbered = symbols_of whole_ring whole_held (record {
+  version = 1;
   count = 6;
   fuse = λ a b c. true;
   set_f = λ a b c d e f. Some (pos (1000000 + 100000 * a + 10000 * b + 1000 * c + 100 * d + 10 * e + f));
@@ -35,6 +36,7 @@ left_of_s = refl
 -- rules with R and the weight given at 1 1 0
 abbrev with_two : Fusion → ℤ → ℤ → Symbols ℤ
 with_two rules exchange weight = symbols_of whole_ring whole_held (record {
+  version = 1;
   count = rules.count;
   fuse = fuses rules;
   set_f = λ a b c d e f. None;

@@ -17,7 +17,7 @@ ghost use Rattle.std.specs.Prelude.{IsOk, OnOk};
 ghost use Rattle.fusion_rules.specs.First.{Answers};
 ghost use Rattle.symbol_table.specs.Draft.{given};
 ghost use Rattle.symbol_table.specs.Derived.{HoldsSymbols};
-ghost use Rattle.symbol_table.specs.Category.{draft_symbols};
+ghost use Rattle.symbol_table.specs.Category.{symbols};
 ghost use Rattle.law_events.specs.Sides.{first_in};
 ghost use Rattle.law_events.specs.Verdicts.{AllFit, AllHold};
 ghost use Rattle.hexagon_check.specs.Exchange.{hexagon_laws};
@@ -38,10 +38,10 @@ use symbol_table::{Derived, Draft, Event, Law};
 pub fn check<R: StarRing>(draft: &Draft<R>, derived: &Derived<R>) -> Result<(), Event>
     requires holds { HoldsSymbols (R.ring draft.now.ring) (given draft.now) derived.now }
     ensures event { Answers result
-        (first_in (draft_symbols (R.ring draft.now.ring) R.held draft.now) hexagon_laws) }
-    ensures lawful { OnOk result (AllHold (draft_symbols (R.ring draft.now.ring) R.held draft.now) hexagon_laws) }
-    ensures complete { AllHold (draft_symbols (R.ring draft.now.ring) R.held draft.now) hexagon_laws
-        → AllFit (draft_symbols (R.ring draft.now.ring) R.held draft.now) hexagon_laws → IsOk result }
+        (first_in (symbols R.StarRing draft.now) hexagon_laws) }
+    ensures lawful { OnOk result (AllHold (symbols R.StarRing draft.now) hexagon_laws) }
+    ensures complete { AllHold (symbols R.StarRing draft.now) hexagon_laws
+        → AllFit (symbols R.StarRing draft.now) hexagon_laws → IsOk result }
 {
     let positive = Hexagon {
         draft,

@@ -3,7 +3,7 @@ ghost use Rattle.ring_laws.specs.Stated.{Gives};
 ghost use Rattle.symbol_table.specs.Index.{AreThreeLabels};
 ghost use Rattle.symbol_table.specs.Draft.{given};
 ghost use Rattle.symbol_table.specs.Derived.{HoldsSymbols};
-ghost use Rattle.symbol_table.specs.Category.{draft_symbols};
+ghost use Rattle.symbol_table.specs.Category.{symbols};
 ghost use Rattle.hexagon_check.specs.Exchange.{left_at, right_at, step_at, symbol_of, told_at};
 
 use crate::exchange::Exchange;
@@ -25,7 +25,7 @@ impl<'a, R: StarRing> Hexagon<'a, R> {
     fn symbol(&self, a: u8, b: u8, c: u8) -> R::Elem
         requires labels { AreThreeLabels self.now.draft.now.rules.count a b c }
         ensures value { result ≡ symbol_of
-            (draft_symbols (R.ring self.now.draft.now.ring) R.held self.now.draft.now) self.now.exchange a b c }
+            (symbols R.StarRing self.now.draft.now) self.now.exchange a b c }
         ensures member { IsTrue ((R.ring self.now.draft.now.ring).member result) }
     {
         match self.exchange {
@@ -39,7 +39,7 @@ impl<'a, R: StarRing> Hexagon<'a, R> {
         requires long { length at.now ≡ 6 }
         requires labels { All (λ t. t < self.now.draft.now.rules.count) at.now }
         ensures value { Gives result (left_at
-            (draft_symbols (R.ring self.now.draft.now.ring) R.held self.now.draft.now) self.now.exchange at.now) }
+            (symbols R.StarRing self.now.draft.now) self.now.exchange at.now) }
         ensures member { IfOk result (λ v. IsTrue ((R.ring self.now.draft.now.ring).member v)) }
     {
         let &[a, b, c, d, e, f] = at else {
@@ -58,7 +58,7 @@ impl<'a, R: StarRing> Hexagon<'a, R> {
         requires label { g < self.now.draft.now.rules.count }
         requires sum { IsTrue ((R.ring self.now.draft.now.ring).member sum) }
         ensures value { Gives result (step_at
-            (draft_symbols (R.ring self.now.draft.now.ring) R.held self.now.draft.now) self.now.exchange at.now g sum) }
+            (symbols R.StarRing self.now.draft.now) self.now.exchange at.now g sum) }
         ensures member { IfOk result (λ v. IsTrue ((R.ring self.now.draft.now.ring).member v)) }
     {
         let &[a, b, c, d, e, f] = at else {
@@ -79,7 +79,7 @@ impl<'a, R: StarRing> Hexagon<'a, R> {
         requires long { length at.now ≡ 6 }
         requires labels { All (λ t. t < self.now.draft.now.rules.count) at.now }
         ensures value { Gives result (right_at
-            (draft_symbols (R.ring self.now.draft.now.ring) R.held self.now.draft.now) self.now.exchange at.now) }
+            (symbols R.StarRing self.now.draft.now) self.now.exchange at.now) }
         ensures member { IfOk result (λ v. IsTrue ((R.ring self.now.draft.now.ring).member v)) }
     {
         sum_over_labels(self.draft.ring(), self.draft.rules().count(), |g, sum| {
@@ -92,7 +92,7 @@ impl<'a, R: StarRing> Hexagon<'a, R> {
         requires long { length at.now ≡ 6 }
         requires labels { All (λ t. t < self.now.draft.now.rules.count) at.now }
         ensures { result ≡ told_at
-            (draft_symbols (R.ring self.now.draft.now.ring) R.held self.now.draft.now) self.now.exchange at.now }
+            (symbols R.StarRing self.now.draft.now) self.now.exchange at.now }
     {
         let Ok(left) = self.left(at) else {
             return Some(Kind::Overflow);

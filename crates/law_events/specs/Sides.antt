@@ -140,6 +140,6 @@ module _ {E : Type 0} (c : Symbols E) where
   first_in [] = None
   first_in (law ∷ laws) = option_or (first_of law) (first_in laws)
 
-  -- the first event of all laws, in the order of the check
+  -- the first event of the laws of the version
   abbrev pub first_of_all : Option Event
-  first_of_all = first_in (laws_of 1)
+  first_of_all = first_in (laws_of c.version)

@@ -1,10 +1,10 @@
 -- When laws hold, and when their items fit.
-use Rattle.std.specs.Prelude.{◌≡◌, ℕ, ◌<◌, List, All, length, true, Some}
+use Rattle.std.specs.Prelude.{◌≡◌, ℕ, ◌<◌, List, All, length, true, Some, None}
 use Rattle.symbol_table.specs.Symbols.{Symbols}
 use Rattle.symbol_table.specs.Laws.{LawHolds, form_of, fuse_all, laws_of}
 use Rattle.symbol_table.specs.declared.law.Law.{Law}
 use Rattle.symbol_table.specs.declared.law.Kind.TheVariants.{Overflow}
-use Rattle.law_events.specs.Sides.{verdict}
+use Rattle.law_events.specs.Sides.{first_of_all, verdict}
 
 module _ {E : Type 0} (c : Symbols E) where
   -- an index of a law: as many labels below the count as it has places, which fuse at each of its triples
@@ -27,4 +27,12 @@ module _ {E : Type 0} (c : Symbols E) where
 
   -- every item of the check fits
   abbrev pub EveryItemFits : Type 0
-  EveryItemFits = AllFit (laws_of 1)
+  EveryItemFits = AllFit (laws_of c.version)
+
+  -- without an event each law of the version holds
+  abbrev pub HoldsWithoutEvent : Type 0
+  HoldsWithoutEvent = first_of_all c ≡ None → AllHold (laws_of c.version)
+
+  -- laws that hold and whose items all fit have no event
+  abbrev pub NoEventWhereHolds : Type 0
+  NoEventWhereHolds = AllHold (laws_of c.version) → EveryItemFits → first_of_all c ≡ None

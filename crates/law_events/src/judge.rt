@@ -2,7 +2,7 @@ ghost use Rattle.std.specs.Prelude.{◌≡◌, ◌<◌, ◌+◌, All, IsOk, OnOk
 ghost use Rattle.fusion_rules.specs.First.{Answers};
 ghost use Rattle.fusion_rules.specs.Fusion.{Fusion, fuses};
 ghost use Rattle.symbol_table.specs.Laws.{LawHolds, form_of};
-ghost use Rattle.symbol_table.specs.Category.{draft_symbols};
+ghost use Rattle.symbol_table.specs.Category.{symbols};
 ghost use Rattle.law_events.specs.First.{event_at, event_of, first_over, fuse_known, within};
 ghost use Rattle.law_events.specs.Sides.{first_of, verdict};
 ghost use Rattle.law_events.specs.Verdicts.{Fits};
@@ -53,10 +53,10 @@ fn event_at<R: StarRing, J: Fn(&[u8]) -> Option<Kind>>(
     judge: &J,
     index: Labels,
 ) -> Option<Event>
-    requires judges { Judges J.Fn judge.now (draft_symbols (R.ring draft.now.ring) R.held draft.now) law }
+    requires judges { Judges J.Fn judge.now (symbols R.StarRing draft.now) law }
     requires long { length index ≡ (form_of law).places }
     requires labels { All (λ t. t < draft.now.rules.count) index }
-    ensures { result ≡ event_of law index (verdict (draft_symbols (R.ring draft.now.ring) R.held draft.now) law index) }
+    ensures { result ≡ event_of law index (verdict (symbols R.StarRing draft.now) law index) }
 {
     let kind = judge(index.as_slice())?;
     Some(Event { kind, law, index })
@@ -72,10 +72,10 @@ fn first_over<R: StarRing, J: Fn(&[u8]) -> Option<Kind>>(
     more: u8,
     index: Labels,
 ) -> Option<Event>
-    requires judges { Judges J.Fn judge.now (draft_symbols (R.ring draft.now.ring) R.held draft.now) law }
+    requires judges { Judges J.Fn judge.now (symbols R.StarRing draft.now) law }
     requires long { length index + more ≡ (form_of law).places }
     requires labels { All (λ t. t < draft.now.rules.count) index }
-    ensures { result ≡ first_over draft.now.rules.count (event_at (fuses draft.now.rules) law (verdict (draft_symbols (R.ring draft.now.ring) R.held draft.now) law)) more index }
+    ensures { result ≡ first_over draft.now.rules.count (event_at (fuses draft.now.rules) law (verdict (symbols R.StarRing draft.now) law)) more index }
 {
     if !fuse_known(draft.rules(), index.as_slice(), law.triples()) {
         return None;
@@ -98,8 +98,8 @@ fn first<R: StarRing, J: Fn(&[u8]) -> Option<Kind>>(
     law: Law,
     judge: &J,
 ) -> Option<Event>
-    requires judges { Judges J.Fn judge.now (draft_symbols (R.ring draft.now.ring) R.held draft.now) law }
-    ensures { result ≡ first_of (draft_symbols (R.ring draft.now.ring) R.held draft.now) law }
+    requires judges { Judges J.Fn judge.now (symbols R.StarRing draft.now) law }
+    ensures { result ≡ first_of (symbols R.StarRing draft.now) law }
 {
     first_over(draft, law, judge, law.places(), Labels::new())
 }
@@ -114,11 +114,11 @@ pub fn check<R: StarRing, J: Fn(&[u8]) -> Option<Kind> + Drop>(
     law: Law,
     judge: J,
 ) -> Result<(), Event>
-    requires judges { Judges J.Fn judge (draft_symbols (R.ring draft.now.ring) R.held draft.now) law }
-    ensures event { Answers result (first_of (draft_symbols (R.ring draft.now.ring) R.held draft.now) law) }
-    ensures lawful { OnOk result (LawHolds (draft_symbols (R.ring draft.now.ring) R.held draft.now) law) }
-    ensures complete { LawHolds (draft_symbols (R.ring draft.now.ring) R.held draft.now) law
-        → Fits (draft_symbols (R.ring draft.now.ring) R.held draft.now) law → IsOk result }
+    requires judges { Judges J.Fn judge (symbols R.StarRing draft.now) law }
+    ensures event { Answers result (first_of (symbols R.StarRing draft.now) law) }
+    ensures lawful { OnOk result (LawHolds (symbols R.StarRing draft.now) law) }
+    ensures complete { LawHolds (symbols R.StarRing draft.now) law
+        → Fits (symbols R.StarRing draft.now) law → IsOk result }
 {
     // Says that the values are of the ring.
     draft.f_is_of_ring();

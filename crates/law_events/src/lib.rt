@@ -13,6 +13,10 @@
 
 mod items;
 mod judge;
+pub mod laws;
 
 pub use items::compare;
 pub use judge::check;
+
+#[cfg(test)]
+mod tests;

@@ -11,6 +11,7 @@ use Rattle.law_events.specs.Sides.{first_of, pentagon_left, pentagon_right}
 -- all labels fuse, and each F is another number: 1abcdef in digits
 abbrev numbered : Symbols ℤ
 numbered = symbols_of whole_ring whole_held (record {
+  version = 1;
   count = 9;
   fuse = λ a b c. true;
   set_f = λ a b c d e f. Some (pos (1000000 + 100000 * a + 10000 * b + 1000 * c + 100 * d + 10 * e + f));
@@ -30,6 +31,7 @@ right_by_hand = refl
 -- rules with one F given: that of four labels 1, at two labels each 0
 abbrev with_one : Fusion → ℤ → Symbols ℤ
 with_one rules value = symbols_of whole_ring whole_held (record {
+  version = 1;
   count = rules.count;
   fuse = fuses rules;
   set_f = λ a b c d e f. if (a == 1 && (b == 1 && (c == 1 && d == 1))) && (e == 0 && f == 0) then Some value else None;

@@ -13,7 +13,7 @@
 
 ghost use Rattle.std.specs.Prelude.{IsOk, OnOk};
 ghost use Rattle.fusion_rules.specs.First.{Answers};
-ghost use Rattle.symbol_table.specs.Category.{draft_symbols};
+ghost use Rattle.symbol_table.specs.Category.{symbols};
 ghost use Rattle.symbol_table.specs.Laws.{LawHolds};
 ghost use Rattle.symbol_table.specs.declared.law.Law.TheVariants.{Pentagon};
 ghost use Rattle.law_events.specs.Sides.{first_of};
@@ -32,11 +32,11 @@ use symbol_table::{Draft, Event, Law};
 /// need not pass. Takes no memory.
 pub fn check<R: StarRing>(draft: &Draft<R>) -> Result<(), Event>
     ensures event { Answers result
-        (first_of (draft_symbols (R.ring draft.now.ring) R.held draft.now) Pentagon) }
+        (first_of (symbols R.StarRing draft.now) Pentagon) }
     ensures lawful { OnOk result
-        (LawHolds (draft_symbols (R.ring draft.now.ring) R.held draft.now) Pentagon) }
-    ensures complete { LawHolds (draft_symbols (R.ring draft.now.ring) R.held draft.now) Pentagon
-        → Fits (draft_symbols (R.ring draft.now.ring) R.held draft.now) Pentagon → IsOk result }
+        (LawHolds (symbols R.StarRing draft.now) Pentagon) }
+    ensures complete { LawHolds (symbols R.StarRing draft.now) Pentagon
+        → Fits (symbols R.StarRing draft.now) Pentagon → IsOk result }
 {
     law_events::check(draft, Law::Pentagon, |at| pentagon(draft, at))
 }

@@ -1,7 +1,7 @@
 ghost use Rattle.std.specs.Prelude.{◌≡◌, ◌<◌, ◌&&◌, All, IfOk, IsTrue, length};
 ghost use Rattle.ring_laws.specs.Stated.{Gives};
 ghost use Rattle.symbol_table.specs.Laws.{at9};
-ghost use Rattle.symbol_table.specs.Category.{draft_symbols};
+ghost use Rattle.symbol_table.specs.Category.{symbols};
 ghost use Rattle.law_events.specs.Sides.{pentagon, pentagon_left, pentagon_right, pentagon_step};
 
 use law_events::compare;
@@ -13,7 +13,7 @@ fn left<R: StarRing>(draft: &Draft<R>, at: &[u8]) -> Result<R::Elem, Overflow>
     requires long { length at.now ≡ 9 }
     requires labels { All (λ t. t < draft.now.rules.count) at.now }
     ensures value { Gives result
-        (at9 (pentagon_left (draft_symbols (R.ring draft.now.ring) R.held draft.now)) at.now) }
+        (at9 (pentagon_left (symbols R.StarRing draft.now)) at.now) }
     ensures member { IfOk result (λ v. IsTrue ((R.ring draft.now.ring).member v)) }
 {
     let &[p, l, m, r, x, y, z, f, q] = at else {
@@ -40,7 +40,7 @@ fn add_term<R: StarRing>(
     requires label { e < draft.now.rules.count }
     requires sum { IsTrue ((R.ring draft.now.ring).member sum) }
     ensures value { Gives result
-        (at9 (pentagon_step (draft_symbols (R.ring draft.now.ring) R.held draft.now)) at.now e sum) }
+        (at9 (pentagon_step (symbols R.StarRing draft.now)) at.now e sum) }
     ensures member { IfOk result (λ v. IsTrue ((R.ring draft.now.ring).member v)) }
 {
     let &[p, l, m, r, x, y, z, f, q] = at else {
@@ -61,7 +61,7 @@ fn right<R: StarRing>(draft: &Draft<R>, at: &[u8]) -> Result<R::Elem, Overflow>
     requires long { length at.now ≡ 9 }
     requires labels { All (λ t. t < draft.now.rules.count) at.now }
     ensures value { Gives result
-        (at9 (pentagon_right (draft_symbols (R.ring draft.now.ring) R.held draft.now)) at.now) }
+        (at9 (pentagon_right (symbols R.StarRing draft.now)) at.now) }
     ensures member { IfOk result (λ v. IsTrue ((R.ring draft.now.ring).member v)) }
 {
     sum_over_labels(draft.ring(), draft.rules().count(), |e, sum| {
@@ -73,7 +73,7 @@ fn right<R: StarRing>(draft: &Draft<R>, at: &[u8]) -> Result<R::Elem, Overflow>
 pub(crate) fn pentagon<R: StarRing>(draft: &Draft<R>, at: &[u8]) -> Option<Kind>
     requires long { length at.now ≡ 9 }
     requires labels { All (λ t. t < draft.now.rules.count) at.now }
-    ensures { result ≡ at9 (pentagon (draft_symbols (R.ring draft.now.ring) R.held draft.now)) at.now }
+    ensures { result ≡ at9 (pentagon (symbols R.StarRing draft.now)) at.now }
 {
     let Ok(left) = left(draft, at) else {
         return Some(Kind::Overflow);

@@ -81,6 +81,7 @@ inverse_golden = num (negsuc 0) (pos 0) (negsuc 0) (negsuc 0)
 -- the Fibonacci category, with the labels 1 and t as 0 and 1
 abbrev pub fib_given : Given Whole5
 fib_given = record {
+  version = 1;
   count = 2;
   fuse = fuse5;
   set_f = f_listed ((111100, inverse_golden) ∷ (111101, inverse_golden) ∷ (111111, num (pos 1) (pos 0) (pos 1) (pos 1)) ∷ []);
@@ -98,6 +99,7 @@ whole n = num (pos n) (pos 0) (pos 0) (pos 0)
 -- no category: three labels that all fuse, and a number of its own at each index that is read
 abbrev pub numbered : Given Whole5
 numbered = record {
+  version = 1;
   count = 3;
   fuse = λ a b c. true;
   set_f = f_listed ((120102, whole 2) ∷ (120112, whole 3) ∷ (102102, whole 5) ∷ (102112, whole 7) ∷ []);

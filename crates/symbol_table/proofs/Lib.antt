@@ -1,7 +1,11 @@
-pub mod MemberLemmas
-pub mod SameLemmas
+pub mod Equations
 pub mod Fib
 pub mod LawLemmas
 pub mod Lawful
+pub mod MemberLemmas
+pub mod Proper
+pub mod RuleLemmas
+pub mod SameLemmas
 pub mod Tested
+pub mod Weighted
 pub mod Worked

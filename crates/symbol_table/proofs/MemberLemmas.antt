@@ -1,36 +1,45 @@
--- The values of F, H and S are of the ring.
-use Rattle.std.proofs.Common.{◌≡◌, ℕ, Bool, true, false, Option, Some, None}
-use Rattle.std.specs.Prelude.{IsTrue, IsSomeAnd, IfSome, unwrap_or, if◌then◌else◌}
-use Rattle.std.specs.Map.{lookup}
-use Rattle.std.specs.BTreeMap.{is_at}
-use Rattle.std.proofs.lemmas.Map.Views.{IfSome-lookup_from_All}
+-- The values of H and S are of the ring.
+use Rattle.std.proofs.Common.{◌≡◌, ℕ, Bool, true, false, Option, Some, ap, sym, ◌∙◌}
+use Rattle.std.specs.Prelude.{IsTrue, IsSomeAnd, if◌then◌else◌}
 use Rattle.ring_laws.specs.Ring.{Ring, Held, RingLaws}
-use Rattle.fusion_rules.specs.Fusion.{fuses}
-use Rattle.symbol_table.specs.Symbols.{Given, IsOfRing, f_admissible, h_of, s_of}
-use Rattle.symbol_table.specs.Index.{f_index, f_cmp}
-use Rattle.symbol_table.specs.Draft.{DraftValue, AreMembers}
-use Rattle.symbol_table.specs.Category.{draft_symbols}
+use Rattle.ring_laws.proofs.SumLemmas.{zero-product}
+use Rattle.symbol_table.specs.Symbols.{Given, f_admissible, h_of, s_of}
 
-module _ {E : Type 0} (ring : Ring E) (held : Held E) (laws : RingLaws ring held) where
+-- What zero and one do, and which values are members: as much of the laws of a ring as most proofs here need.
+pub record HasZero {E : Type 0} (ring : Ring E) : Type 0 where
+  pub zero_is : IsTrue (ring.member ring.zero)
+  pub one_is : IsTrue (ring.member ring.one)
+  pub product_is : (x y : E) → IsTrue (ring.member (ring.product x y))
+  pub sum : ring.sum ring.zero ring.zero ≡ ring.zero
+  pub left : (x : E) → ring.product ring.zero x ≡ ring.zero
+  pub right : (x : E) → ring.product x ring.zero ≡ ring.zero
+  pub conjugate : ring.conjugate ring.zero ≡ ring.zero
+
+pub has_zero : {E : Type 0} {ring : Ring E} {held : Held E} → RingLaws ring held → HasZero ring
+has_zero {E} {ring} laws = record {
+  zero_is = laws.zero_is;
+  one_is = laws.one_is;
+  product_is = laws.product_is;
+  sum = laws.sum-zero ring.zero laws.zero_is;
+  left = zero-product laws;
+  right = laws.product-zero;
+  conjugate =
+      ap ring.conjugate (sym (laws.product-zero (ring.conjugate ring.zero)))
+      ∙ laws.conjugate-product (ring.conjugate ring.zero) ring.zero
+      ∙ ap (λ y. ring.product y (ring.conjugate ring.zero)) (laws.conjugate-conjugate ring.zero laws.zero_is)
+      ∙ zero-product laws (ring.conjugate ring.zero);
+}
+
+module _ {E : Type 0} (ring : Ring E) (basic : HasZero ring) where
   of_ring : (b : Bool) (x y : E) → IsTrue (ring.member (if b then ring.product x y else ring.zero))
-  of_ring true x y = laws.product_is x y
-  of_ring false x y = laws.zero_is
+  of_ring true x y = basic.product_is x y
+  of_ring false x y = basic.zero_is
 
   pub h_member : (g : Given E) (a b c d f e : ℕ) → IsTrue (ring.member (h_of ring g a b c d f e))
   h_member g a b c d f e = of_ring (f_admissible g.fuse a b c d e f) _ _
 
   pub s_member : (g : Given E) (a b c : ℕ) → IsTrue (ring.member (s_of ring g a b c))
   s_member g a b c = of_ring (g.fuse a b c) _ _
-
-  one_or : (b : Bool) (o : Option E) → IfSome o (λ x. IsTrue (ring.member x)) → IsTrue (ring.member (if b then unwrap_or o ring.one else ring.zero))
-  one_or true (Some x) is = is
-  one_or true None is = laws.one_is
-  one_or false o is = laws.zero_is
-
-  pub f_member : {R : Type 0} (draft : DraftValue R E) → AreMembers ring draft.set_f → IsOfRing (draft_symbols ring held draft)
-  f_member draft are a b k d e f =
-      one_or (f_admissible (fuses draft.rules) a b k d e f) (lookup (is_at (f_cmp (f_index a b k d e f))) draft.set_f)
-      (IfSome-lookup_from_All (λ x. IsTrue (ring.member x)) (is_at (f_cmp (f_index a b k d e f))) draft.set_f are)
 
 -- what stands at an index
 pub standing : {E : Type 0} (P : E → Type 0) (o : Option E) (x : E) → o ≡ Some x → P x → IsSomeAnd o P

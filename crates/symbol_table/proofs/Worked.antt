@@ -6,8 +6,9 @@ use Rattle.ring_laws.specs.Ring.{Ring}
 use Rattle.ring_laws.specs.Whole.{whole_ring, whole_held, most}
 use Rattle.fusion_rules.specs.Fusion.{fuses}
 use Rattle.fusion_rules.proofs.Worked.{fib, one_label}
-use Rattle.symbol_table.specs.Symbols.{Given, f_of, vertex_of, h_of, s_of, symbols_of}
+use Rattle.symbol_table.specs.Symbols.{Given, Symbols, f_of, vertex_of, h_of, s_of, symbols_of}
 use Rattle.symbol_table.specs.Evaluated.{h_stated, s_stated}
+use Rattle.symbol_table.specs.Laws.{Same, Free, unit_f_says, unit_says, norm_r_says, real_w_says, inverse_w_says}
 use Rattle.symbol_table.specs.Index.{f_index, v_index}
 use Rattle.symbol_table.specs.Draft.{DraftValue, given, with_f, f_fault}
 use Rattle.symbol_table.specs.Derived.{DerivedValue, HoldsSymbols}
@@ -20,6 +21,7 @@ turned_ring = record whole_ring { conjugate = neg_ℤ }
 -- all labels fuse, and each symbol is another number: 1abcdef, 2abc, 3abc, 4abc in digits
 abbrev numbered : Given ℤ
 numbered = record {
+  version = 1;
   count = 7;
   fuse = λ a b c. true;
   set_f = λ a b c d e f. Some (pos (1000000 + 100000 * a + 10000 * b + 1000 * c + 100 * d + 10 * e + f));
@@ -42,9 +44,46 @@ s_by_hand = refl
 pub s_evaluated : s_stated (symbols_of turned_ring whole_held numbered) 1 2 0 ≡ Some (neg_ℤ (pos 29028792000))
 s_evaluated = refl
 
+-- what laws say at distinct numbers
+abbrev turned : Symbols ℤ
+turned = symbols_of turned_ring whole_held numbered
+
+pub unit_f_first : unit_f_says turned 0 1 2 3 4 5 ≡ Same (pos 1012345) (pos 1)
+unit_f_first = refl
+
+pub unit_f_second : unit_f_says turned 1 0 2 3 4 5 ≡ Same (pos 1102345) (pos 1)
+unit_f_second = refl
+
+pub unit_f_third : unit_f_says turned 1 2 0 3 4 5 ≡ Same (pos 1120345) (pos 1)
+unit_f_third = refl
+
+pub no_unit_f : unit_f_says turned 1 2 3 4 5 6 ≡ Free
+no_unit_f = refl
+
+pub unit_r_first : unit_says turned turned.r 0 1 2 ≡ Same (pos 2012) (pos 1)
+unit_r_first = refl
+
+pub unit_r_second : unit_says turned turned.r 1 0 2 ≡ Same (pos 2102) (pos 1)
+unit_r_second = refl
+
+pub no_unit_r : unit_says turned turned.r 1 2 0 ≡ Free
+no_unit_r = refl
+
+-- R(1,2,0) conj(R(1,2,0)) w(2,1,0) = -2120 · 2120 · 3210
+pub norm_r_by_hand : norm_r_says turned 1 2 0 ≡ Same (neg_ℤ (pos 14427024000)) (pos 3120)
+norm_r_by_hand = refl
+
+pub real_w_by_hand : real_w_says turned 1 2 0 ≡ Same (neg_ℤ (pos 3120)) (pos 3120)
+real_w_by_hand = refl
+
+-- 3120 · 4120
+pub inverse_w_by_hand : inverse_w_says turned 1 2 0 ≡ Same (pos 12854400) (pos 1)
+inverse_w_by_hand = refl
+
 -- Fibonacci rules with two values of F and one of R
 abbrev partly : DraftValue ℕ ℤ
 partly = record {
+  version = 1;
   ring = 0;
   rules = fib;
   set_f = (f_index 1 1 1 1 0 0, pos 7) ∷ (f_index 1 1 1 1 1 0, pos 9) ∷ [];
@@ -102,7 +141,7 @@ no_conjugate = refl
 
 -- the unit alone: H and S are 1, and a derived value that holds them
 abbrev pub unit_draft : DraftValue ℕ ℤ
-unit_draft = record { ring = 0; rules = one_label; set_f = []; set_r = []; set_w = []; set_v = [] }
+unit_draft = record { version = 1; ring = 0; rules = one_label; set_f = []; set_r = []; set_w = []; set_v = [] }
 
 abbrev pub unit_derived : DerivedValue ℤ
 unit_derived = record { put_h = (f_index 0 0 0 0 0 0, pos 1) ∷ []; put_s = (v_index 0 0 0, pos 1) ∷ [] }

@@ -3,6 +3,7 @@ use Rattle.std.specs.Prelude.{◌≡◌, ℕ, Bool, List, All, Option, Some, Non
 use Rattle.std.specs.Map.{lookup, values_of}
 use Rattle.std.specs.BTreeMap.{insert_entry, is_at}
 use Rattle.ring_laws.specs.Ring.{Ring}
+use Rattle.ring_laws.specs.declared.StarRing.{Ghosts}
 use Rattle.fusion_rules.specs.Fusion.{Fusion, fuses}
 use Rattle.symbol_table.specs.Symbols.{Given, f_admissible}
 use Rattle.symbol_table.specs.Index.{f_index, v_index, f_cmp, v_cmp, f_same, v_same}
@@ -11,8 +12,9 @@ use Rattle.symbol_table.specs.declared.index.VIndex.{VIndex}
 use Rattle.symbol_table.specs.declared.draft.SetFault.{SetFault}
 use Rattle.symbol_table.specs.declared.draft.SetFault.TheVariants.{NotAdmissible, Repeated, Memory}
 
--- The ring, the rules, and the values that were set, in the order of their indices.
+-- The version, the ring, the rules, and the values that were set, in the order of their indices.
 pub record DraftValue (R E : Type 0) : Type 0 where
+  pub version : ℕ
   pub ring : R
   pub rules : Fusion
   pub set_f : List (FIndex × E)
@@ -20,9 +22,10 @@ pub record DraftValue (R E : Type 0) : Type 0 where
   pub set_w : List (VIndex × E)
   pub set_v : List (VIndex × E)
 
--- what a draft gives: its triples, and the value at each index that was set
+-- what a draft gives: its version, its triples, and the value at each index that was set
 abbrev pub given : {R E : Type 0} → DraftValue R E → Given E
 given draft = record {
+  version = draft.version;
   count = draft.rules.count;
   fuse = fuses draft.rules;
   set_f = λ a b c d e f. lookup (is_at (f_cmp (f_index a b c d e f))) draft.set_f;
@@ -41,6 +44,10 @@ pub record IsOver {R E : Type 0} (ring : Ring E) (draft : DraftValue R E) : Type
   pub r : AreMembers ring draft.set_r
   pub w : AreMembers ring draft.set_w
   pub v : AreMembers ring draft.set_v
+
+-- a value is of the draft's ring, for a clause under a bound R: StarRing, as `IsMember R.StarRing draft.now x`
+abbrev pub IsMember : {R E : Type 0} → Ghosts R E → DraftValue R E → E → Type 0
+IsMember bound draft x = IsTrue ((bound.ring draft.ring).member x)
 
 -- one value more
 module _ {R E : Type 0} (draft : DraftValue R E) where

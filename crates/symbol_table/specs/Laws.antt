@@ -1,5 +1,5 @@
 -- The laws of a braided fusion category: the indices of each, and its equation over ring values.
-use Rattle.std.specs.Prelude.{◌≡◌, ◌≢◌, ℕ, ◌<◌, Bool, true, ◌&&◌, ◌||◌, ◌==◌, List, [], ◌∷◌, All, length, slice_index, codes, if◌then◌else◌}
+use Rattle.std.specs.Prelude.{◌≡◌, ◌≢◌, ℕ, ◌<◌, Bool, true, ◌&&◌, ◌||◌, ◌==◌, List, [], ◌∷◌, All, length, slice_index, slice_index_or, codes, if◌then◌else◌}
 use Rattle.ring_laws.specs.Ring.{Ring}
 use Rattle.ring_laws.specs.Sums.{total}
 use Rattle.fusion_rules.specs.Check.{RulesPass, dual_of}
@@ -69,10 +69,14 @@ form_of Pentagon = record { name = codes "pentagon"; places = 9; triples = penta
 form_of HexagonOne = six (codes "hexagon-1") hexagon_triples
 form_of HexagonTwo = six (codes "hexagon-2") hexagon_triples
 
--- The laws of a version, in the order of the check.
+-- The laws of a version, in the order of the check: those of one symbol, weight or vertex, the pentagon, the hexagons.
 abbrev pub laws_of : ℕ → List Law
 laws_of version =
     UnitF ∷ UnitR ∷ UnitW ∷ RealW ∷ InverseW ∷ NormR ∷ DeriveH ∷ DeriveS ∷ InverseF ∷ InverseH ∷ Rigid ∷ Pentagon ∷ HexagonOne ∷ HexagonTwo ∷ []
+
+-- every law stands in a list
+abbrev pub HasEveryLaw : List Law → Type 0
+HasEveryLaw laws = (law : Law) → (k : ℕ) × (k < length laws) × (slice_index_or laws k law ≡ law)
 
 -- the labels at three places of an index fuse
 abbrev pub fuses_at : (ℕ → ℕ → ℕ → Bool) → List ℕ → Triple → Bool
@@ -187,7 +191,7 @@ module _ {E : Type 0} (c : Symbols E) where
       (i : List ℕ) → length i ≡ (form_of law).places → All (λ t. t < c.count) i → fuse_all c.fuse i (form_of law).triples ≡ true
       → Holds c.ring (equation_of law i)
 
-  -- The rules pass, and every equation of every law is true. The order of the laws says nothing here.
+  -- The rules pass, and every equation of every law of the version is true. The order of the laws says nothing here.
   pub record IsLawful : Type 0 where
     pub rules : RulesPass c.count c.fuse
-    pub laws : All LawHolds (laws_of 1)
+    pub laws : All LawHolds (laws_of c.version)

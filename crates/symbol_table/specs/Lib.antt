@@ -1,3 +1,4 @@
+pub mod AllLabels
 pub mod Category
 pub mod Derived
 pub mod Draft

@@ -2,8 +2,10 @@
 use Rattle.std.specs.Prelude.{ℕ, Bool, IsTrue, Option, unwrap_or, ◌&&◌, if◌then◌else◌}
 use Rattle.ring_laws.specs.Ring.{Ring, Held}
 
--- What a draft gives: how many labels there are, which triples fuse, and the values that were set.
+-- What a draft gives: the version of its laws, how many labels there are, which triples fuse, and the values that
+-- were set.
 pub record Given (E : Type 0) : Type 0 where
+  pub version : ℕ
   pub count : ℕ
   pub fuse : ℕ → ℕ → ℕ → Bool
   pub set_f : ℕ → ℕ → ℕ → ℕ → ℕ → ℕ → Option E
@@ -11,8 +13,9 @@ pub record Given (E : Type 0) : Type 0 where
   pub set_w : ℕ → ℕ → ℕ → Option E
   pub set_v : ℕ → ℕ → ℕ → Option E
 
--- The symbols at all labels, over a ring.
+-- The symbols at all labels, over a ring, and the version of the laws that they are to obey.
 pub record Symbols (E : Type 0) : Type 0 where
+  pub version : ℕ
   pub ring : Ring E
   pub held : Held E
   pub count : ℕ
@@ -58,6 +61,7 @@ s_of ring g a b c =
 -- the symbols of what is given
 abbrev pub symbols_of : {E : Type 0} → Ring E → Held E → Given E → Symbols E
 symbols_of ring held g = record {
+  version = g.version;
   ring = ring;
   held = held;
   count = g.count;

@@ -1,11 +1,10 @@
 ghost use Rattle.std.specs.Prelude.{◌≡◌, IsTrue};
 ghost use Rattle.fusion_rules.specs.Fusion.{fuses};
 ghost use Rattle.symbol_table.specs.Index.{AreSixLabels, AreThreeLabels};
-ghost use Rattle.symbol_table.specs.Symbols.{f_of, h_of, s_of, vertex_of};
-ghost use Rattle.symbol_table.specs.Draft.{f_index_admissible, given};
+ghost use Rattle.symbol_table.specs.Draft.{IsMember, f_index_admissible, given};
 ghost use Rattle.symbol_table.specs.Derived.{HoldsSymbols};
 ghost use Rattle.symbol_table.specs.Laws.{IsLawful};
-ghost use Rattle.symbol_table.specs.Category.{draft_symbols};
+ghost use Rattle.symbol_table.specs.Category.{symbols};
 
 use crate::derived::Derived;
 use crate::draft::Draft;
@@ -14,8 +13,11 @@ use fusion_rules::Rules;
 use ring_laws::StarRing;
 use std::marker::Model;
 
-/// A unitary braided fusion category without multiplicities: rules that pass and symbols that obey every
-/// law, with H and S at every admissible index.
+/// A braided fusion category without multiplicities: rules that pass and symbols that obey every law of its version,
+/// with H and S at every admissible index.
+///
+/// It is unitary in the inner products that the weights give: they make H the adjoint of F and S that of R. Weights
+/// need not be positive.
 ///
 /// Its type keeps that the draft is lawful; whoever has a category may rely on it.
 #[derive(Drop)]
@@ -38,7 +40,7 @@ impl<R: StarRing> Model for Category<R> {
 impl<R: StarRing> Category<R> {
     /// The category of a lawful draft and its H and S at every admissible index. Takes no memory.
     pub fn seal(draft: Draft<R>, derived: Derived<R>) -> Category<R>
-        requires lawful { IsLawful (draft_symbols (R.ring draft.ring) R.held draft) }
+        requires lawful { IsLawful (symbols R.StarRing draft) }
         requires holds { HoldsSymbols (R.ring draft.ring) (given draft) derived }
         ensures { result ≡ draft }
     {
@@ -48,7 +50,7 @@ impl<R: StarRing> Category<R> {
     /// The draft, which is lawful.
     pub fn draft(&self) -> &Draft<R>
         ensures draft { result.now ≡ self.now }
-        ensures lawful { IsLawful (draft_symbols (R.ring self.now.ring) R.held self.now) }
+        ensures lawful { IsLawful (symbols R.StarRing self.now) }
     {
         &self.draft
     }
@@ -70,9 +72,9 @@ impl<R: StarRing> Category<R> {
     /// F at an admissible index.
     pub fn f(&self, at: &FIndex) -> R::Elem
         requires { IsTrue (f_index_admissible (given self.now) at.now) }
-        ensures value { result ≡ f_of (R.ring self.now.ring) (given self.now) at.now.a at.now.b at.now.c
+        ensures value { result ≡ (symbols R.StarRing self.now).f at.now.a at.now.b at.now.c
             at.now.d at.now.e at.now.f }
-        ensures member { IsTrue ((R.ring self.now.ring).member result) }
+        ensures member { IsMember R.StarRing self.now result }
         ensures held { IsTrue (R.held.can_hold result) }
     {
         self.draft.f(at)
@@ -81,9 +83,9 @@ impl<R: StarRing> Category<R> {
     /// H(a,b,c,d;f,e) at the admissible index of F(a,b,c,d;e,f).
     pub fn h(&self, at: &FIndex) -> R::Elem
         requires { IsTrue (f_index_admissible (given self.now) at.now) }
-        ensures value { result ≡ h_of (R.ring self.now.ring) (given self.now) at.now.a at.now.b at.now.c
+        ensures value { result ≡ (symbols R.StarRing self.now).h at.now.a at.now.b at.now.c
             at.now.d at.now.f at.now.e }
-        ensures member { IsTrue ((R.ring self.now.ring).member result) }
+        ensures member { IsMember R.StarRing self.now result }
         ensures held { IsTrue (R.held.can_hold result) }
     {
         self.derived.h_in(&self.draft, at)
@@ -92,9 +94,9 @@ impl<R: StarRing> Category<R> {
     /// R at an admissible index.
     pub fn r(&self, at: &VIndex) -> R::Elem
         requires { IsTrue (fuses self.now.rules at.now.a at.now.b at.now.c) }
-        ensures value { result ≡ vertex_of (R.ring self.now.ring) (given self.now) (given self.now).set_r
+        ensures value { result ≡ (symbols R.StarRing self.now).r
             at.now.a at.now.b at.now.c }
-        ensures member { IsTrue ((R.ring self.now.ring).member result) }
+        ensures member { IsMember R.StarRing self.now result }
         ensures held { IsTrue (R.held.can_hold result) }
     {
         self.draft.r(at)
@@ -103,8 +105,8 @@ impl<R: StarRing> Category<R> {
     /// S at an admissible index.
     pub fn s(&self, at: &VIndex) -> R::Elem
         requires { IsTrue (fuses self.now.rules at.now.a at.now.b at.now.c) }
-        ensures value { result ≡ s_of (R.ring self.now.ring) (given self.now) at.now.a at.now.b at.now.c }
-        ensures member { IsTrue ((R.ring self.now.ring).member result) }
+        ensures value { result ≡ (symbols R.StarRing self.now).s at.now.a at.now.b at.now.c }
+        ensures member { IsMember R.StarRing self.now result }
         ensures held { IsTrue (R.held.can_hold result) }
     {
         self.derived.s_in(&self.draft, at)
@@ -113,9 +115,9 @@ impl<R: StarRing> Category<R> {
     /// The weight w at an admissible index.
     pub fn w(&self, at: &VIndex) -> R::Elem
         requires { IsTrue (fuses self.now.rules at.now.a at.now.b at.now.c) }
-        ensures value { result ≡ vertex_of (R.ring self.now.ring) (given self.now) (given self.now).set_w
+        ensures value { result ≡ (symbols R.StarRing self.now).w
             at.now.a at.now.b at.now.c }
-        ensures member { IsTrue ((R.ring self.now.ring).member result) }
+        ensures member { IsMember R.StarRing self.now result }
         ensures held { IsTrue (R.held.can_hold result) }
     {
         self.draft.w(at)

@@ -1,8 +1,8 @@
 ghost use Rattle.std.specs.Prelude.{◌≡◌, [], IsSomeAnd, IsTrue, OnOk, OnErr};
 ghost use Rattle.fusion_rules.specs.Fusion.{fuses};
 ghost use Rattle.symbol_table.specs.Index.{AreSixLabels, AreThreeLabels};
-ghost use Rattle.symbol_table.specs.Symbols.{h_of, s_of};
-ghost use Rattle.symbol_table.specs.Draft.{SetsVertex, f_index_admissible, given};
+ghost use Rattle.symbol_table.specs.Draft.{IsMember, SetsVertex, f_index_admissible, given};
+ghost use Rattle.symbol_table.specs.Category.{symbols};
 ghost use Rattle.symbol_table.specs.Derived.{DerivedValue, HoldsSymbols, PutsH, h_put, s_put, with_h, with_s};
 
 use crate::draft::Draft;
@@ -87,9 +87,9 @@ impl<R: StarRing> Derived<R> {
     pub fn h_in(&self, draft: &Draft<R>, at: &FIndex) -> R::Elem
         requires admissible { IsTrue (f_index_admissible (given draft.now) at.now) }
         requires holds { HoldsSymbols (R.ring draft.now.ring) (given draft.now) self.now }
-        ensures value { result ≡ h_of (R.ring draft.now.ring) (given draft.now) at.now.a at.now.b at.now.c
+        ensures value { result ≡ (symbols R.StarRing draft.now).h at.now.a at.now.b at.now.c
             at.now.d at.now.f at.now.e }
-        ensures member { IsTrue ((R.ring draft.now.ring).member result) }
+        ensures member { IsMember R.StarRing draft.now result }
         ensures held { IsTrue (R.held.can_hold result) }
     {
         self.h(draft.ring(), at)
@@ -99,8 +99,8 @@ impl<R: StarRing> Derived<R> {
     pub fn s_in(&self, draft: &Draft<R>, at: &VIndex) -> R::Elem
         requires admissible { IsTrue (fuses draft.now.rules at.now.a at.now.b at.now.c) }
         requires holds { HoldsSymbols (R.ring draft.now.ring) (given draft.now) self.now }
-        ensures value { result ≡ s_of (R.ring draft.now.ring) (given draft.now) at.now.a at.now.b at.now.c }
-        ensures member { IsTrue ((R.ring draft.now.ring).member result) }
+        ensures value { result ≡ (symbols R.StarRing draft.now).s at.now.a at.now.b at.now.c }
+        ensures member { IsMember R.StarRing draft.now result }
         ensures held { IsTrue (R.held.can_hold result) }
     {
         self.s(draft.ring(), at)
@@ -111,8 +111,8 @@ impl<R: StarRing> Derived<R> {
     pub fn h_at(&self, draft: &Draft<R>, a: u8, b: u8, c: u8, d: u8, f: u8, e: u8) -> R::Elem
         requires labels { AreSixLabels draft.now.rules.count a b c d e f }
         requires holds { HoldsSymbols (R.ring draft.now.ring) (given draft.now) self.now }
-        ensures value { result ≡ h_of (R.ring draft.now.ring) (given draft.now) a b c d f e }
-        ensures member { IsTrue ((R.ring draft.now.ring).member result) }
+        ensures value { result ≡ (symbols R.StarRing draft.now).h a b c d f e }
+        ensures member { IsMember R.StarRing draft.now result }
         ensures held { IsTrue (R.held.can_hold result) }
     {
         let at = FIndex { a, b, c, d, e, f };
@@ -127,8 +127,8 @@ impl<R: StarRing> Derived<R> {
     pub fn s_at(&self, draft: &Draft<R>, a: u8, b: u8, c: u8) -> R::Elem
         requires labels { AreThreeLabels draft.now.rules.count a b c }
         requires holds { HoldsSymbols (R.ring draft.now.ring) (given draft.now) self.now }
-        ensures value { result ≡ s_of (R.ring draft.now.ring) (given draft.now) a b c }
-        ensures member { IsTrue ((R.ring draft.now.ring).member result) }
+        ensures value { result ≡ (symbols R.StarRing draft.now).s a b c }
+        ensures member { IsMember R.StarRing draft.now result }
         ensures held { IsTrue (R.held.can_hold result) }
     {
         if !draft.rules().allows(a, b, c) {

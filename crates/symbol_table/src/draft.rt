@@ -1,9 +1,9 @@
 ghost use Rattle.std.specs.Prelude.{◌≡◌, ◌<◌, ◌≤◌, ℕ, [], IsTrue, OnOk, Option, Some, None, is_some, unwrap_or, if◌then◌else◌, List};
 ghost use Rattle.fusion_rules.specs.Fusion.{fuses};
 ghost use Rattle.symbol_table.specs.Index.{AreSixLabels, AreThreeLabels};
-ghost use Rattle.symbol_table.specs.Symbols.{IsOfRing, f_of, vertex_of};
-ghost use Rattle.symbol_table.specs.Category.{draft_symbols};
-ghost use Rattle.symbol_table.specs.Draft.{DraftValue, Sets, SetsF, SetsVertex, f_fault, f_index_admissible, given, vertex_fault, with_f, with_r, with_v, with_w};
+ghost use Rattle.symbol_table.specs.Symbols.{IsOfRing};
+ghost use Rattle.symbol_table.specs.Category.{symbols};
+ghost use Rattle.symbol_table.specs.Draft.{DraftValue, IsMember, IsOver, Sets, SetsF, SetsVertex, f_fault, f_index_admissible, given, vertex_fault, with_f, with_r, with_v, with_w};
 
 use crate::index::{FIndex, VIndex};
 use crate::values::{set_value, value_or_one};
@@ -24,12 +24,14 @@ pub enum SetFault {
     Memory,
 }
 
-/// Rules, and values of F, R, w and v at some of their admissible indices, over a ring.
+/// Rules, and values of F, R, w and v at some of their admissible indices, over a ring; and the version of the laws
+/// that they are to obey.
 ///
 /// A symbol that wasn't set is 1. Every value that was set is a member of the ring. Nothing says that the
 /// symbols are those of a category.
 #[derive(Drop)]
 pub struct Draft<R: StarRing> {
+    version: u8,
     ring: R,
     rules: Rules,
     f: BTreeMap<FIndex, R::Elem>,
@@ -43,18 +45,19 @@ impl<R: StarRing> Model for Draft<R> {
 
     ghost Value = { DraftValue R R.Elem };
 
-    ghost view = { λ d. record { ring = d.ring; rules = d.rules; set_f = d.f.entries; set_r = d.r.entries; set_w = d.w.entries; set_v = d.v.entries } };
+    ghost view = { λ d. record { version = d.version; ring = d.ring; rules = d.rules; set_f = d.f.entries; set_r = d.r.entries; set_w = d.w.entries; set_v = d.v.entries } };
 
-    ghost invariant = { λ d. IsOver (R.ring d.ring) (record { ring = d.ring; rules = d.rules; set_f = d.f.entries; set_r = d.r.entries; set_w = d.w.entries; set_v = d.v.entries }) };
+    ghost invariant = { λ d. IsOver (R.ring d.ring) (record { version = d.version; ring = d.ring; rules = d.rules; set_f = d.f.entries; set_r = d.r.entries; set_w = d.w.entries; set_v = d.v.entries }) };
 }
 
 impl<R: StarRing> Draft<R> {
-    /// A draft of this ring and these rules, with no symbol set.
+    /// A draft of this ring and these rules, of version 1, with no symbol set.
     pub fn new(alloc: Global, ring: R, rules: Rules) -> Draft<R>
         ensures { result ≡ record
-            { ring = ring; rules = rules; set_f = []; set_r = []; set_w = []; set_v = [] } }
+            { version = 1; ring = ring; rules = rules; set_f = []; set_r = []; set_w = []; set_v = [] } }
     {
         Draft {
+            version: 1,
             ring,
             rules,
             f: BTreeMap::new(alloc),
@@ -62,6 +65,15 @@ impl<R: StarRing> Draft<R> {
             w: BTreeMap::new(alloc),
             v: BTreeMap::new(alloc),
         }
+    }
+
+    /// The version: by it the list of laws goes that a category's symbols obey.
+    pub fn version(&self) -> u8
+        ensures version { result ≡ self.now.version }
+        // Every value that was set is a member of the ring.
+        ensures members { IsOver (R.ring self.now.ring) self.now }
+    {
+        self.version
     }
 
     /// The ring of the values.
@@ -80,7 +92,7 @@ impl<R: StarRing> Draft<R> {
 
     /// Every F of the draft is of its ring.
     pub fn f_is_of_ring(&self)
-        ensures { IsOfRing (draft_symbols (R.ring self.now.ring) R.held self.now) }
+        ensures { IsOfRing (symbols R.StarRing self.now) }
     {
         // Opens what the draft keeps of its values.
         let _ring = &self.ring;
@@ -89,9 +101,9 @@ impl<R: StarRing> Draft<R> {
     /// F at an admissible index: the value that was set, or 1.
     pub fn f(&self, at: &FIndex) -> R::Elem
         requires { IsTrue (f_index_admissible (given self.now) at.now) }
-        ensures value { result ≡ f_of (R.ring self.now.ring) (given self.now) at.now.a at.now.b at.now.c
+        ensures value { result ≡ (symbols R.StarRing self.now).f at.now.a at.now.b at.now.c
             at.now.d at.now.e at.now.f }
-        ensures member { IsTrue ((R.ring self.now.ring).member result) }
+        ensures member { IsMember R.StarRing self.now result }
         ensures held { IsTrue (R.held.can_hold result) }
     {
         value_or_one(&self.ring, self.f.get(at))
@@ -100,9 +112,9 @@ impl<R: StarRing> Draft<R> {
     /// R at an admissible index: the value that was set, or 1.
     pub fn r(&self, at: &VIndex) -> R::Elem
         requires { IsTrue (fuses self.now.rules at.now.a at.now.b at.now.c) }
-        ensures value { result ≡ vertex_of (R.ring self.now.ring) (given self.now) (given self.now).set_r
+        ensures value { result ≡ (symbols R.StarRing self.now).r
             at.now.a at.now.b at.now.c }
-        ensures member { IsTrue ((R.ring self.now.ring).member result) }
+        ensures member { IsMember R.StarRing self.now result }
         ensures held { IsTrue (R.held.can_hold result) }
     {
         value_or_one(&self.ring, self.r.get(at))
@@ -111,9 +123,9 @@ impl<R: StarRing> Draft<R> {
     /// The weight w at an admissible index: the value that was set, or 1.
     pub fn w(&self, at: &VIndex) -> R::Elem
         requires { IsTrue (fuses self.now.rules at.now.a at.now.b at.now.c) }
-        ensures value { result ≡ vertex_of (R.ring self.now.ring) (given self.now) (given self.now).set_w
+        ensures value { result ≡ (symbols R.StarRing self.now).w
             at.now.a at.now.b at.now.c }
-        ensures member { IsTrue ((R.ring self.now.ring).member result) }
+        ensures member { IsMember R.StarRing self.now result }
         ensures held { IsTrue (R.held.can_hold result) }
     {
         value_or_one(&self.ring, self.w.get(at))
@@ -122,9 +134,9 @@ impl<R: StarRing> Draft<R> {
     /// The inverse weight v at an admissible index: the value that was set, or 1.
     pub fn v(&self, at: &VIndex) -> R::Elem
         requires { IsTrue (fuses self.now.rules at.now.a at.now.b at.now.c) }
-        ensures value { result ≡ vertex_of (R.ring self.now.ring) (given self.now) (given self.now).set_v
+        ensures value { result ≡ (symbols R.StarRing self.now).v
             at.now.a at.now.b at.now.c }
-        ensures member { IsTrue ((R.ring self.now.ring).member result) }
+        ensures member { IsMember R.StarRing self.now result }
         ensures held { IsTrue (R.held.can_hold result) }
     {
         value_or_one(&self.ring, self.v.get(at))
@@ -136,7 +148,7 @@ impl<R: StarRing> Draft<R> {
     /// before. Refused, or for want of memory, the draft is unchanged.
     pub fn set_f(&mut self, at: FIndex, value: R::Elem) -> Result<(), SetFault>
         requires labels { AreSixLabels self.old.rules.count at.a at.b at.c at.d at.e at.f }
-        requires member { IsTrue ((R.ring self.old.ring).member value) }
+        requires member { IsMember R.StarRing self.old value }
         ensures told { Sets result (f_fault (given self.old) at) self.old self.new (with_f self.old at value) }
         ensures sets { OnOk result (SetsF at value (given self.old).set_f (given self.new).set_f) }
     {
@@ -152,7 +164,7 @@ impl<R: StarRing> Draft<R> {
     /// before. Refused, or for want of memory, the draft is unchanged.
     pub fn set_r(&mut self, at: VIndex, value: R::Elem) -> Result<(), SetFault>
         requires labels { AreThreeLabels self.old.rules.count at.a at.b at.c }
-        requires member { IsTrue ((R.ring self.old.ring).member value) }
+        requires member { IsMember R.StarRing self.old value }
         ensures told { Sets result (vertex_fault (given self.old) (given self.old).set_r at) self.old self.new
             (with_r self.old at value) }
         ensures sets { OnOk result (SetsVertex at value (given self.old).set_r (given self.new).set_r) }
@@ -169,7 +181,7 @@ impl<R: StarRing> Draft<R> {
     /// before. Refused, or for want of memory, the draft is unchanged.
     pub fn set_w(&mut self, at: VIndex, value: R::Elem) -> Result<(), SetFault>
         requires labels { AreThreeLabels self.old.rules.count at.a at.b at.c }
-        requires member { IsTrue ((R.ring self.old.ring).member value) }
+        requires member { IsMember R.StarRing self.old value }
         ensures told { Sets result (vertex_fault (given self.old) (given self.old).set_w at) self.old self.new
             (with_w self.old at value) }
         ensures sets { OnOk result (SetsVertex at value (given self.old).set_w (given self.new).set_w) }
@@ -186,7 +198,7 @@ impl<R: StarRing> Draft<R> {
     /// before. Refused, or for want of memory, the draft is unchanged.
     pub fn set_v(&mut self, at: VIndex, value: R::Elem) -> Result<(), SetFault>
         requires labels { AreThreeLabels self.old.rules.count at.a at.b at.c }
-        requires member { IsTrue ((R.ring self.old.ring).member value) }
+        requires member { IsMember R.StarRing self.old value }
         ensures told { Sets result (vertex_fault (given self.old) (given self.old).set_v at) self.old self.new
             (with_v self.old at value) }
         ensures sets { OnOk result (SetsVertex at value (given self.old).set_v (given self.new).set_v) }
@@ -200,8 +212,8 @@ impl<R: StarRing> Draft<R> {
     /// F(a,b,c,d;e,f) at any six labels below the count: 0 where they aren't admissible.
     pub fn f_at(&self, a: u8, b: u8, c: u8, d: u8, e: u8, f: u8) -> R::Elem
         requires labels { AreSixLabels self.now.rules.count a b c d e f }
-        ensures value { result ≡ f_of (R.ring self.now.ring) (given self.now) a b c d e f }
-        ensures member { IsTrue ((R.ring self.now.ring).member result) }
+        ensures value { result ≡ (symbols R.StarRing self.now).f a b c d e f }
+        ensures member { IsMember R.StarRing self.now result }
         ensures held { IsTrue (R.held.can_hold result) }
     {
         let at = FIndex { a, b, c, d, e, f };
@@ -214,8 +226,8 @@ impl<R: StarRing> Draft<R> {
     /// R(a,b,c) at any three labels below the count: 0 where they aren't admissible.
     pub fn r_at(&self, a: u8, b: u8, c: u8) -> R::Elem
         requires labels { AreThreeLabels self.now.rules.count a b c }
-        ensures value { result ≡ vertex_of (R.ring self.now.ring) (given self.now) (given self.now).set_r a b c }
-        ensures member { IsTrue ((R.ring self.now.ring).member result) }
+        ensures value { result ≡ (symbols R.StarRing self.now).r a b c }
+        ensures member { IsMember R.StarRing self.now result }
         ensures held { IsTrue (R.held.can_hold result) }
     {
         if !self.rules.allows(a, b, c) {
@@ -227,8 +239,8 @@ impl<R: StarRing> Draft<R> {
     /// The weight w(a,b,c) at any three labels below the count: 0 where they aren't admissible.
     pub fn w_at(&self, a: u8, b: u8, c: u8) -> R::Elem
         requires labels { AreThreeLabels self.now.rules.count a b c }
-        ensures value { result ≡ vertex_of (R.ring self.now.ring) (given self.now) (given self.now).set_w a b c }
-        ensures member { IsTrue ((R.ring self.now.ring).member result) }
+        ensures value { result ≡ (symbols R.StarRing self.now).w a b c }
+        ensures member { IsMember R.StarRing self.now result }
         ensures held { IsTrue (R.held.can_hold result) }
     {
         if !self.rules.allows(a, b, c) {
@@ -240,8 +252,8 @@ impl<R: StarRing> Draft<R> {
     /// The inverse weight v(a,b,c) at any three labels below the count: 0 where they aren't admissible.
     pub fn v_at(&self, a: u8, b: u8, c: u8) -> R::Elem
         requires labels { AreThreeLabels self.now.rules.count a b c }
-        ensures value { result ≡ vertex_of (R.ring self.now.ring) (given self.now) (given self.now).set_v a b c }
-        ensures member { IsTrue ((R.ring self.now.ring).member result) }
+        ensures value { result ≡ (symbols R.StarRing self.now).v a b c }
+        ensures member { IsMember R.StarRing self.now result }
         ensures held { IsTrue (R.held.can_hold result) }
     {
         if !self.rules.allows(a, b, c) {

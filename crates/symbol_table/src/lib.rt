@@ -15,6 +15,8 @@
 //!   (`specs/Derived.antt`).
 //! - *law*: its indices as data, and its equation (`specs/Laws.antt`).
 //! - *lawful*: the rules pass and every equation of every law is true (`specs/Laws.antt`).
+//! - *proper*, *unit*, *weighted*, *equations*: what the symbols of a category obey at all labels
+//!   (`specs/AllLabels.antt`, given by [`laws::all_labels`]).
 //! - *category*: a lawful draft with its H and S (`specs/Category.antt`).
 //! - *index*: the labels of a symbol, and their order (`specs/Index.antt`).
 #![tactic(auto)]
@@ -24,6 +26,7 @@ mod derived;
 mod draft;
 mod index;
 mod law;
+pub mod laws;
 mod values;
 
 pub use category::Category;

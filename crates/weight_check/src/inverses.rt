@@ -5,7 +5,7 @@ ghost use Rattle.fusion_rules.specs.First.{Answers};
 ghost use Rattle.ring_laws.specs.Stated.{Gives};
 ghost use Rattle.symbol_table.specs.Draft.{given};
 ghost use Rattle.symbol_table.specs.Derived.{HoldsSymbols};
-ghost use Rattle.symbol_table.specs.Category.{draft_symbols};
+ghost use Rattle.symbol_table.specs.Category.{symbols};
 ghost use Rattle.symbol_table.specs.Laws.{at6};
 ghost use Rattle.law_events.specs.Sides.{first_in, inverse_f, inverse_f_left, inverse_f_step, inverse_h, inverse_h_left, inverse_h_step};
 ghost use Rattle.weight_check.specs.Order.{inverse_laws};
@@ -28,7 +28,7 @@ fn add_f_h<R: StarRing>(
     requires between { f < draft.now.rules.count }
     requires holds { HoldsSymbols (R.ring draft.now.ring) (given draft.now) derived.now }
     requires sum { IsTrue ((R.ring draft.now.ring).member sum) }
-    ensures value { Gives result (at6 (inverse_f_step (draft_symbols (R.ring draft.now.ring) R.held draft.now)) at.now f sum) }
+    ensures value { Gives result (at6 (inverse_f_step (symbols R.StarRing draft.now)) at.now f sum) }
     ensures member { IfOk result (λ z. IsTrue ((R.ring draft.now.ring).member z)) }
 {
     let &[a, b, c, d, e, g] = at else {
@@ -52,7 +52,7 @@ fn sum_f_h<R: StarRing>(
     requires long { length at.now ≡ 6 }
     requires labels { All (λ t. t < draft.now.rules.count) at.now }
     requires holds { HoldsSymbols (R.ring draft.now.ring) (given draft.now) derived.now }
-    ensures value { Gives result (at6 (inverse_f_left (draft_symbols (R.ring draft.now.ring) R.held draft.now)) at.now) }
+    ensures value { Gives result (at6 (inverse_f_left (symbols R.StarRing draft.now)) at.now) }
     ensures member { IfOk result (λ z. IsTrue ((R.ring draft.now.ring).member z)) }
 {
     sum_over_labels(draft.ring(), draft.rules().count(), |f, sum| {
@@ -73,7 +73,7 @@ fn add_h_f<R: StarRing>(
     requires between { e < draft.now.rules.count }
     requires holds { HoldsSymbols (R.ring draft.now.ring) (given draft.now) derived.now }
     requires sum { IsTrue ((R.ring draft.now.ring).member sum) }
-    ensures value { Gives result (at6 (inverse_h_step (draft_symbols (R.ring draft.now.ring) R.held draft.now)) at.now e sum) }
+    ensures value { Gives result (at6 (inverse_h_step (symbols R.StarRing draft.now)) at.now e sum) }
     ensures member { IfOk result (λ z. IsTrue ((R.ring draft.now.ring).member z)) }
 {
     let &[a, b, c, d, f, g] = at else {
@@ -97,7 +97,7 @@ fn sum_h_f<R: StarRing>(
     requires long { length at.now ≡ 6 }
     requires labels { All (λ t. t < draft.now.rules.count) at.now }
     requires holds { HoldsSymbols (R.ring draft.now.ring) (given draft.now) derived.now }
-    ensures value { Gives result (at6 (inverse_h_left (draft_symbols (R.ring draft.now.ring) R.held draft.now)) at.now) }
+    ensures value { Gives result (at6 (inverse_h_left (symbols R.StarRing draft.now)) at.now) }
     ensures member { IfOk result (λ z. IsTrue ((R.ring draft.now.ring).member z)) }
 {
     sum_over_labels(draft.ring(), draft.rules().count(), |e, sum| {
@@ -110,7 +110,7 @@ fn inverse_f<R: StarRing>(draft: &Draft<R>, derived: &Derived<R>, at: &[u8]) -> 
     requires long { length at.now ≡ 6 }
     requires labels { All (λ t. t < draft.now.rules.count) at.now }
     requires holds { HoldsSymbols (R.ring draft.now.ring) (given draft.now) derived.now }
-    ensures { result ≡ at6 (inverse_f (draft_symbols (R.ring draft.now.ring) R.held draft.now)) at.now }
+    ensures { result ≡ at6 (inverse_f (symbols R.StarRing draft.now)) at.now }
 {
     let Ok(sum) = sum_f_h(draft, derived, at) else {
         return Some(Kind::Overflow);
@@ -126,7 +126,7 @@ fn inverse_h<R: StarRing>(draft: &Draft<R>, derived: &Derived<R>, at: &[u8]) -> 
     requires long { length at.now ≡ 6 }
     requires labels { All (λ t. t < draft.now.rules.count) at.now }
     requires holds { HoldsSymbols (R.ring draft.now.ring) (given draft.now) derived.now }
-    ensures { result ≡ at6 (inverse_h (draft_symbols (R.ring draft.now.ring) R.held draft.now)) at.now }
+    ensures { result ≡ at6 (inverse_h (symbols R.StarRing draft.now)) at.now }
 {
     let Ok(sum) = sum_h_f(draft, derived, at) else {
         return Some(Kind::Overflow);
@@ -143,7 +143,7 @@ pub(crate) fn check_inverses<R: StarRing>(
     derived: &Derived<R>,
 ) -> Result<(), Event>
     requires { HoldsSymbols (R.ring draft.now.ring) (given draft.now) derived.now }
-    ensures { Answers result (first_in (draft_symbols (R.ring draft.now.ring) R.held draft.now) inverse_laws) }
+    ensures { Answers result (first_in (symbols R.StarRing draft.now) inverse_laws) }
 {
     check(draft, Law::InverseF, |at| inverse_f(draft, derived, at))?;
     check(draft, Law::InverseH, |at| inverse_h(draft, derived, at))

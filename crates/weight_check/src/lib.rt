@@ -11,7 +11,7 @@
 ghost use Rattle.std.specs.Prelude.{IfOk};
 ghost use Rattle.fusion_rules.specs.Fusion.{fuses};
 ghost use Rattle.fusion_rules.specs.Check.{RulesPass};
-ghost use Rattle.symbol_table.specs.Category.{draft_symbols};
+ghost use Rattle.symbol_table.specs.Category.{symbols};
 ghost use Rattle.law_events.specs.Verdicts.{AllFit, AllHold};
 ghost use Rattle.derive_symbols.specs.Told.{Tells};
 ghost use Rattle.weight_check.specs.Answers.{NamesNoLaw};
@@ -23,26 +23,23 @@ mod rigid;
 mod symbols;
 
 use crate::inverses::check_inverses;
-use crate::rigid::rigid;
+use crate::rigid::check_rigid;
 use crate::symbols::check_symbols;
 pub use derive_symbols::WeightFault;
 use derive_symbols::derive_draft;
 use ring_laws::StarRing;
 use std::alloc::Global;
-use symbol_table::{Derived, Draft, Law};
+use symbol_table::{Derived, Draft};
 
 /// H and S of a draft, or the first event of the weight laws.
-fn derive_checked<R: StarRing>(
-    alloc: Global,
-    draft: &Draft<R>,
-) -> Result<Derived<R>, WeightFault>
+fn derive_checked<R: StarRing>(alloc: Global, draft: &Draft<R>) -> Result<Derived<R>, WeightFault>
     requires { RulesPass draft.now.rules.count (fuses draft.now.rules) }
     ensures { Tells (R.ring draft.now.ring) R.held draft.now weight_laws result }
 {
     check_symbols(draft)?;
     let derived = derive_draft(alloc, draft)?;
     check_inverses(draft, &derived)?;
-    law_events::check(draft, Law::Rigid, |at| rigid(draft, at))?;
+    check_rigid(draft)?;
     Ok(derived)
 }
 
@@ -54,9 +51,9 @@ fn derive_checked<R: StarRing>(
 pub fn check<R: StarRing>(alloc: Global, draft: &Draft<R>) -> Result<Derived<R>, WeightFault>
     requires pass { RulesPass draft.now.rules.count (fuses draft.now.rules) }
     ensures told { Tells (R.ring draft.now.ring) R.held draft.now weight_laws result }
-    ensures lawful { IfOk result (λ _. AllHold (draft_symbols (R.ring draft.now.ring) R.held draft.now) weight_laws) }
-    ensures complete { AllHold (draft_symbols (R.ring draft.now.ring) R.held draft.now) weight_laws
-        → AllFit (draft_symbols (R.ring draft.now.ring) R.held draft.now) weight_laws → NamesNoLaw result }
+    ensures lawful { IfOk result (λ _. AllHold (symbols R.StarRing draft.now) weight_laws) }
+    ensures complete { AllHold (symbols R.StarRing draft.now) weight_laws
+        → AllFit (symbols R.StarRing draft.now) weight_laws → NamesNoLaw result }
 {
     // Says that the values are of the ring.
     draft.f_is_of_ring();

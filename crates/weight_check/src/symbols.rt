@@ -2,7 +2,7 @@
 
 ghost use Rattle.std.specs.Prelude.{◌≡◌, ◌<◌, All, length};
 ghost use Rattle.fusion_rules.specs.First.{Answers};
-ghost use Rattle.symbol_table.specs.Category.{draft_symbols};
+ghost use Rattle.symbol_table.specs.Category.{symbols};
 ghost use Rattle.symbol_table.specs.Laws.{at3, at6};
 ghost use Rattle.law_events.specs.Sides.{first_in, inverse_w, norm_r, real_w, unit_f, unit_vertex};
 ghost use Rattle.weight_check.specs.Order.{symbol_laws};
@@ -16,7 +16,7 @@ use symbol_table::{Draft, Event, Kind, Law};
 fn unit_f<R: StarRing>(draft: &Draft<R>, at: &[u8]) -> Option<Kind>
     requires long { length at.now ≡ 6 }
     requires labels { All (λ t. t < draft.now.rules.count) at.now }
-    ensures { result ≡ at6 (unit_f (draft_symbols (R.ring draft.now.ring) R.held draft.now)) at.now }
+    ensures { result ≡ at6 (unit_f (symbols R.StarRing draft.now)) at.now }
 {
     let &[a, b, c, d, e, f] = at else {
         unreachable!()
@@ -31,12 +31,10 @@ fn unit_f<R: StarRing>(draft: &Draft<R>, at: &[u8]) -> Option<Kind>
 fn unit_r<R: StarRing>(draft: &Draft<R>, at: &[u8]) -> Option<Kind>
     requires long { length at.now ≡ 3 }
     requires labels { All (λ t. t < draft.now.rules.count) at.now }
-    ensures { result ≡ at3 (unit_vertex (draft_symbols (R.ring draft.now.ring) R.held draft.now)
-        (draft_symbols (R.ring draft.now.ring) R.held draft.now).r) at.now }
+    ensures { result ≡ at3 (unit_vertex (symbols R.StarRing draft.now)
+        (symbols R.StarRing draft.now).r) at.now }
 {
-    let &[a, b, c] = at else {
-        unreachable!()
-    };
+    let &[a, b, c] = at else { unreachable!() };
     if a != 0 && b != 0 {
         return None;
     }
@@ -47,12 +45,10 @@ fn unit_r<R: StarRing>(draft: &Draft<R>, at: &[u8]) -> Option<Kind>
 fn unit_w<R: StarRing>(draft: &Draft<R>, at: &[u8]) -> Option<Kind>
     requires long { length at.now ≡ 3 }
     requires labels { All (λ t. t < draft.now.rules.count) at.now }
-    ensures { result ≡ at3 (unit_vertex (draft_symbols (R.ring draft.now.ring) R.held draft.now)
-        (draft_symbols (R.ring draft.now.ring) R.held draft.now).w) at.now }
+    ensures { result ≡ at3 (unit_vertex (symbols R.StarRing draft.now)
+        (symbols R.StarRing draft.now).w) at.now }
 {
-    let &[a, b, c] = at else {
-        unreachable!()
-    };
+    let &[a, b, c] = at else { unreachable!() };
     if a != 0 && b != 0 {
         return None;
     }
@@ -63,11 +59,9 @@ fn unit_w<R: StarRing>(draft: &Draft<R>, at: &[u8]) -> Option<Kind>
 fn real_w<R: StarRing>(draft: &Draft<R>, at: &[u8]) -> Option<Kind>
     requires long { length at.now ≡ 3 }
     requires labels { All (λ t. t < draft.now.rules.count) at.now }
-    ensures { result ≡ at3 (real_w (draft_symbols (R.ring draft.now.ring) R.held draft.now)) at.now }
+    ensures { result ≡ at3 (real_w (symbols R.StarRing draft.now)) at.now }
 {
-    let &[a, b, c] = at else {
-        unreachable!()
-    };
+    let &[a, b, c] = at else { unreachable!() };
     is_real(draft.ring(), &draft.w_at(a, b, c))
 }
 
@@ -75,11 +69,9 @@ fn real_w<R: StarRing>(draft: &Draft<R>, at: &[u8]) -> Option<Kind>
 fn inverse_w<R: StarRing>(draft: &Draft<R>, at: &[u8]) -> Option<Kind>
     requires long { length at.now ≡ 3 }
     requires labels { All (λ t. t < draft.now.rules.count) at.now }
-    ensures { result ≡ at3 (inverse_w (draft_symbols (R.ring draft.now.ring) R.held draft.now)) at.now }
+    ensures { result ≡ at3 (inverse_w (symbols R.StarRing draft.now)) at.now }
 {
-    let &[a, b, c] = at else {
-        unreachable!()
-    };
+    let &[a, b, c] = at else { unreachable!() };
     let w = draft.w_at(a, b, c);
     let v = draft.v_at(a, b, c);
     are_inverse(draft.ring(), &w, &v)
@@ -89,11 +81,9 @@ fn inverse_w<R: StarRing>(draft: &Draft<R>, at: &[u8]) -> Option<Kind>
 fn norm_r<R: StarRing>(draft: &Draft<R>, at: &[u8]) -> Option<Kind>
     requires long { length at.now ≡ 3 }
     requires labels { All (λ t. t < draft.now.rules.count) at.now }
-    ensures { result ≡ at3 (norm_r (draft_symbols (R.ring draft.now.ring) R.held draft.now)) at.now }
+    ensures { result ≡ at3 (norm_r (symbols R.StarRing draft.now)) at.now }
 {
-    let &[a, b, c] = at else {
-        unreachable!()
-    };
+    let &[a, b, c] = at else { unreachable!() };
     let r = draft.r_at(a, b, c);
     let mirrored = draft.w_at(b, a, c);
     let own = draft.w_at(a, b, c);
@@ -102,7 +92,7 @@ fn norm_r<R: StarRing>(draft: &Draft<R>, at: &[u8]) -> Option<Kind>
 
 /// Whether a draft meets the laws of F, R, w and v; else the first event of the first that it doesn't meet.
 pub(crate) fn check_symbols<R: StarRing>(draft: &Draft<R>) -> Result<(), Event>
-    ensures { Answers result (first_in (draft_symbols (R.ring draft.now.ring) R.held draft.now) symbol_laws) }
+    ensures { Answers result (first_in (symbols R.StarRing draft.now) symbol_laws) }
 {
     check(draft, Law::UnitF, |at| unit_f(draft, at))?;
     check(draft, Law::UnitR, |at| unit_r(draft, at))?;

@@ -16,21 +16,20 @@ returns-in_err-check_inverses g c =
     (fault_next symbols symbol_laws (derive_laws ++ inverse_laws ++ Rigid ∷ []) (fault.Law c.in_err-check_inverses.field-0.0) c.in_ok-check_symbols.ensures
     (fault_next symbols derive_laws (inverse_laws ++ Rigid ∷ []) (fault.Law c.in_err-check_inverses.field-0.0) c.in_ok-derived.ensures.told.0 found))
 
-pub returns-in_err-check : goal.returns-in_err-check
-returns-in_err-check g c =
-    let p = err_from_is_err_and c.from_residual-in_err-check.result c.from_residual-in_err-check.ensures.1 in
+pub returns-in_err-check_rigid : goal.returns-in_err-check_rigid
+returns-in_err-check_rigid g c =
+    let p = err_from_is_err_and c.from_residual-in_err-check_rigid.result c.from_residual-in_err-check_rigid.ensures.1 in
     let symbols = draft_symbols (g.R.StarRing.ring c.args.draft.now.ring) g.R.StarRing.held c.args.draft.now in
-    let found = event_alone symbols Rigid c.in_err-check.field-0.0 c.in_err-check.ensures.event in
+    let found = event_alone symbols Rigid c.in_err-check_rigid.field-0.0 c.in_err-check_rigid.ensures in
     rw (p.1, p.2)
-    (fault_next symbols symbol_laws (derive_laws ++ inverse_laws ++ Rigid ∷ []) (fault.Law c.in_err-check.field-0.0) c.in_ok-check_symbols.ensures
-    (fault_next symbols derive_laws (inverse_laws ++ Rigid ∷ []) (fault.Law c.in_err-check.field-0.0) c.in_ok-derived.ensures.told.0
-    (fault_next symbols inverse_laws (Rigid ∷ []) (fault.Law c.in_err-check.field-0.0) c.in_ok-check_inverses.ensures found)))
+    (fault_next symbols symbol_laws (derive_laws ++ inverse_laws ++ Rigid ∷ []) (fault.Law c.in_err-check_rigid.field-0.0) c.in_ok-check_symbols.ensures
+    (fault_next symbols derive_laws (inverse_laws ++ Rigid ∷ []) (fault.Law c.in_err-check_rigid.field-0.0) c.in_ok-derived.ensures.told.0
+    (fault_next symbols inverse_laws (Rigid ∷ []) (fault.Law c.in_err-check_rigid.field-0.0) c.in_ok-check_inverses.ensures found)))
 
 pub returns : goal.returns
 returns g c =
     let symbols = draft_symbols (g.R.StarRing.ring c.args.draft.now.ring) g.R.StarRing.held c.args.draft.now in
-    let last = none_both symbols inverse_laws (Rigid ∷ []) c.in_ok-check_inverses.ensures (none_alone symbols Rigid c.in_ok-check.ensures.event) in
-    (
+    let last = none_both symbols inverse_laws (Rigid ∷ []) c.in_ok-check_inverses.ensures (none_alone symbols Rigid c.in_ok-check_rigid.ensures) in (
       none_both symbols symbol_laws (derive_laws ++ inverse_laws ++ Rigid ∷ []) c.in_ok-check_symbols.ensures
           (none_both symbols derive_laws (inverse_laws ++ Rigid ∷ []) c.in_ok-derived.ensures.told.0 last),
       c.in_ok-derived.ensures.told.1,

@@ -1,6 +1,6 @@
 use Rattle.std.specs.Prelude.{IsTrue}
 use Rattle.symbol_table.specs.Draft.{given}
-use Rattle.symbol_table.proofs.MemberLemmas.{s_member, standing}
+use Rattle.symbol_table.proofs.MemberLemmas.{has_zero, s_member, standing}
 use Rattle.symbol_table.proofs.derived.Derived.s_in.Goals as goal
 
 pub s-requires : goal.s-requires
@@ -10,4 +10,4 @@ s-requires g c =
     let at = c.args.at.now in
     rw c.ring.ensures
     (standing (λ x. IsTrue (ring.member x)) _ _ (c.requires.holds.s at.a at.b at.c c.requires.admissible)
-    (s_member ring g.R.StarRing.held laws (given c.args.draft.now) at.a at.b at.c))
+    (s_member ring (has_zero laws) (given c.args.draft.now) at.a at.b at.c))
