@@ -3,7 +3,6 @@ pub mod Lines
 pub mod Work
 pub mod Stages
 pub mod Causes
-pub mod LawNames
 pub mod Refusals
 pub mod Report
 pub mod Categories

@@ -2,12 +2,12 @@
 use Rattle.std.specs.Prelude.{ℕ, List, [], ◌∷◌, map, codes, decimal, slice_index_or}
 use Rattle.fusion_rules.specs.declared.rules.RulesFault.{RulesFault}
 use Rattle.fusion_rules.specs.declared.rules.RulesFault.TheVariants.{NotCommutative, NotAssociative, NoSingleDual}
+use Rattle.symbol_table.specs.Laws.{form_of}
 use Rattle.symbol_table.specs.declared.law.Kind.{Kind}
 use Rattle.symbol_table.specs.declared.law.Kind.TheVariants.{Fails, Overflow}
 use Rattle.symbol_table.specs.declared.law.Event.{Event}
 use Rattle.anyon_app.specs.declared.texts.Kind as text
 use Rattle.anyon_app.specs.declared.texts.Kind.TheVariants.{Category, Program}
-use Rattle.anyon_app.specs.LawNames.{law_name}
 use Rattle.category_text.specs.declared.fault.CategoryCause.{CategoryCause}
 use Rattle.anyon_app.specs.Replies.{Reply}
 use Rattle.anyon_app.specs.Lines.{refusal_of, limit_of}
@@ -45,7 +45,7 @@ rules_line names (NoSingleDual a) = refusal_of (codes "dual" ∷ label_names nam
 
 -- an event of a law: its name, and its index
 abbrev pub event_words : List (List ℕ) → Event → List (List ℕ)
-event_words names event = law_name event.law ∷ label_names names event.index
+event_words names event = (form_of event.law).name ∷ label_names names event.index
 
 abbrev pub event_reply : Kind → List (List ℕ) → Reply
 event_reply Fails words = refusal_of words

@@ -1,12 +1,10 @@
-// The causes of refused lines and the names of laws, as they are written.
+// The causes of refused lines, as they are written.
 ghost use Rattle.std.specs.Prelude.{◌≡◌};
 ghost use Rattle.anyon_app.specs.Causes.{category_cause, line_cause, number_cause};
-ghost use Rattle.anyon_app.specs.LawNames.{law_name};
 
 use category_text::CategoryCause;
 use cyclo_text::NumberWord;
 use line_text::LineCause;
-use symbol_table::Law;
 
 /// The words of a cause that any text can have.
 pub fn line_words(cause: LineCause) -> &'static str
@@ -49,27 +47,5 @@ pub fn category_words(cause: CategoryCause) -> &'static str
         CategoryCause::UnitFuse => "unit fuse",
         CategoryCause::NotAdmissible => "not admissible",
         CategoryCause::Number(cause) => number_words(cause),
-    }
-}
-
-/// The name of a law.
-pub fn law_name(law: Law) -> &'static str
-    ensures { result.now ≡ law_name law }
-{
-    match law {
-        Law::UnitF => "unit-f",
-        Law::UnitR => "unit-r",
-        Law::UnitW => "unit-w",
-        Law::RealW => "real-w",
-        Law::InverseW => "inverse-w",
-        Law::NormR => "norm-r",
-        Law::DeriveH => "derive-h",
-        Law::DeriveS => "derive-s",
-        Law::InverseF => "inverse-f",
-        Law::InverseH => "inverse-h",
-        Law::Rigid => "rigid",
-        Law::Pentagon => "pentagon",
-        Law::HexagonOne => "hexagon-1",
-        Law::HexagonTwo => "hexagon-2",
     }
 }

@@ -4,7 +4,7 @@ ghost use Rattle.anyon_app.specs.Stages.{StopsWith};
 ghost use Rattle.anyon_app.specs.Refusals.{category_line, event_line, event_words, label_name, not_built, refused_line, rules_line, too_long, turn_overflow};
 ghost use Rattle.anyon_app.specs.Lines.{line_of};
 
-use crate::causes::{category_words, law_name};
+use crate::causes::category_words;
 use crate::report::write_labels;
 use crate::stop::{Stop, limit, refusal};
 use crate::texts::Kind;
@@ -92,7 +92,7 @@ fn event_text(
 {
     let mut line = Vec::from_slice(alloc, begun)?;
     line.push(b' ')?;
-    line.extend_from_slice(law_name(event.law).as_bytes())?;
+    line.extend_from_slice(event.law.name().as_bytes())?;
     write_labels(names, event.index.as_slice(), &mut line)?;
     line.push(b'\n')?;
     Ok(line)

@@ -2,9 +2,9 @@
 use Rattle.std.specs.Prelude.{◌≡◌, Some, None, Result, Ok, Err}
 use Rattle.fusion_rules.specs.Check.{rules_fault}
 use Rattle.symbol_table.specs.Symbols.{Symbols}
-use Rattle.symbol_table.specs.declared.law.Law.{Law}
+use Rattle.symbol_table.specs.Laws.{IsLawful}
 use Rattle.law_events.specs.Sides.{first_of_all}
-use Rattle.law_events.specs.Verdicts.{Fits}
+use Rattle.law_events.specs.Verdicts.{EveryItemFits}
 use Rattle.category_gate.specs.declared.GateFault.{GateFault}
 use Rattle.category_gate.specs.declared.GateFault.TheVariants as fault
 
@@ -20,9 +20,13 @@ module _ {E : Type 0} (c : Symbols E) where
   Admits (Ok category) = (rules_fault c.count c.fuse ≡ None) × (first_of_all c ≡ None)
   Admits (Err found) = IsFirst found
 
-  -- every item of the check fits
-  abbrev pub EveryItemFits : Type 0
-  EveryItemFits = (law : Law) → Fits c law
+  -- without a fault of the rules and without an event the symbols are lawful
+  abbrev pub IsSound : Type 0
+  IsSound = rules_fault c.count c.fuse ≡ None → first_of_all c ≡ None → IsLawful c
+
+  -- lawful symbols whose items all fit have neither a fault of the rules nor an event
+  abbrev pub IsComplete : Type 0
+  IsComplete = IsLawful c → EveryItemFits c → (rules_fault c.count c.fuse ≡ None) × (first_of_all c ≡ None)
 
 -- a fault that is want of memory
 abbrev pub IsMemory : GateFault → Type 0

@@ -4,16 +4,24 @@
 //! Glossary:
 //! - *first fault*: the first fault of the rules, else the first event of the laws (`specs/Gate.antt`).
 //! - *fits*: no item of the stated evaluation of a law is too large (`law_events`, `specs/Verdicts.antt`).
+//! - *sound, complete*: without a first fault the symbols are lawful, and lawful symbols whose items fit have none
+//!   (`specs/Gate.antt`, laws in [`laws`]).
 //!
 //! Source: Kitaev 2006, Appendix E; Wang, CBMS 112. The order of the check: `docs/FORMATS.md`.
 #![tactic(auto)]
 
 ghost use Rattle.std.specs.Prelude.{◌≡◌, IfOk};
-ghost use Rattle.symbol_table.specs.Category.{draft_symbols};
+ghost use Rattle.symbol_table.specs.Category.{symbols};
 ghost use Rattle.symbol_table.specs.Draft.{given};
 ghost use Rattle.symbol_table.specs.Derived.{HoldsSymbols};
 ghost use Rattle.symbol_table.specs.Laws.{IsLawful};
-ghost use Rattle.category_gate.specs.Gate.{Admits, EveryItemFits, IsOkOrMemory};
+ghost use Rattle.fusion_rules.specs.First.{Answers};
+ghost use Rattle.law_events.specs.Sides.{first_in};
+ghost use Rattle.law_events.specs.Verdicts.{EveryItemFits};
+ghost use Rattle.category_gate.specs.Order.{shape_laws};
+ghost use Rattle.category_gate.specs.Gate.{Admits, IsOkOrMemory};
+
+pub mod laws;
 
 use fusion_rules::RulesFault;
 use ring_laws::StarRing;
@@ -65,17 +73,23 @@ impl From<Event> for GateFault {
     }
 }
 
+/// Whether the laws of the pentagon and the hexagons hold: else the first event. Takes no memory.
+fn check_shapes<R: StarRing>(draft: &Draft<R>, derived: &Derived<R>) -> Result<(), Event>
+    requires { HoldsSymbols (R.ring draft.now.ring) (given draft.now) derived.now }
+    ensures { Answers result (first_in (symbols R.StarRing draft.now) shape_laws) }
+{
+    pentagon_check::check(draft)?;
+    hexagon_check::check(draft, derived)
+}
+
 /// H and S of a draft that has no first fault.
 fn check<R: StarRing>(alloc: Global, draft: &Draft<R>) -> Result<Derived<R>, GateFault>
-    ensures told { Admits (draft_symbols (R.ring draft.now.ring) R.held draft.now) result }
+    ensures told { Admits (symbols R.StarRing draft.now) result }
     ensures holds { IfOk result (λ derived. HoldsSymbols (R.ring draft.now.ring) (given draft.now) derived) }
-    ensures lawful { IfOk result (λ _. IsLawful (draft_symbols (R.ring draft.now.ring) R.held draft.now)) }
-    ensures complete { IsLawful (draft_symbols (R.ring draft.now.ring) R.held draft.now) → EveryItemFits (draft_symbols (R.ring draft.now.ring) R.held draft.now) → IsOkOrMemory result }
 {
     draft.rules().check()?;
     let derived = weight_check::check(alloc, draft)?;
-    pentagon_check::check(draft)?;
-    hexagon_check::check(draft, &derived)?;
+    check_shapes(draft, &derived)?;
     Ok(derived)
 }
 
@@ -85,11 +99,13 @@ fn check<R: StarRing>(alloc: Global, draft: &Draft<R>) -> Result<Derived<R>, Gat
 /// is lawful. The draft is given up on a refusal. A lawful draft whose items all fit is admitted, or there was no
 /// memory for its derived symbols.
 pub fn admit<R: StarRing>(alloc: Global, draft: Draft<R>) -> Result<Category<R>, GateFault>
-    ensures told { Admits (draft_symbols (R.ring draft.ring) R.held draft) result }
+    ensures told { Admits (symbols R.StarRing draft) result }
     ensures same { IfOk result (λ category. category ≡ draft) }
-    ensures lawful { IfOk result (λ category. IsLawful (draft_symbols (R.ring category.ring) R.held category)) }
-    ensures complete { IsLawful (draft_symbols (R.ring draft.ring) R.held draft) → EveryItemFits (draft_symbols (R.ring draft.ring) R.held draft) → IsOkOrMemory result }
+    ensures lawful { IfOk result (λ category. IsLawful (symbols R.StarRing category)) }
+    ensures complete { IsLawful (symbols R.StarRing draft) → EveryItemFits (symbols R.StarRing draft) → IsOkOrMemory result }
 {
+    // Says that no event means lawful, and that a lawful draft whose items fit has none.
+    laws::of_draft(&draft);
     let derived = check(alloc, &draft)?;
     Ok(Category::seal(draft, derived))
 }

@@ -1,10 +1,10 @@
 -- What an evaluation of H gives is H.
 use Rattle.std.proofs.Common.{◌≡◌, ℕ, true, Some, refl, ap, ◌∙◌}
-use Rattle.ring_laws.specs.Ring.{Ring}
+use Rattle.ring_laws.specs.Ring.{Ring, Held}
 use Rattle.ring_laws.specs.Stated.{◌>>=◌, product_at, conjugate_at}
 use Rattle.ring_laws.proofs.StatedLemmas.{bind_some, product_given, conjugate_given}
-use Rattle.symbol_table.specs.Symbols.{Given, f_admissible, f_of, vertex_of, h_of, s_of}
-use Rattle.symbol_table.specs.Evaluated.{h_at, s_at}
+use Rattle.symbol_table.specs.Symbols.{Given, f_admissible, f_of, vertex_of, h_of, s_of, symbols_of}
+use Rattle.symbol_table.specs.Evaluated.{h_stated, s_stated}
 
 module _ {E : Type 0} (ring : Ring E) where
   -- the conjugate of a value times four weights
@@ -21,8 +21,8 @@ module _ {E : Type 0} (ring : Ring E) where
       let third = product_given ring two.0 v three.0 three.1 ∙ ap (λ y. ring.product y v) second in
       product_given ring three.0 s z three.2 ∙ ap (λ y. ring.product y s) third
 
-  pub h_given : (g : Given E) (a b c d f e : ℕ) (z : E) → f_admissible g.fuse a b c d e f ≡ true → h_at ring g a b c d f e ≡ Some z → z ≡ h_of ring g a b c d f e
-  h_given g a b c d f e z is given = five_given _ _ _ _ _ z given ∙ admitted is
+  pub h_given : (held : Held E) (g : Given E) (a b c d f e : ℕ) (z : E) → f_admissible g.fuse a b c d e f ≡ true → h_stated (symbols_of ring held g) a b c d f e ≡ Some z → z ≡ h_of ring g a b c d f e
+  h_given held g a b c d f e z is given = five_given _ _ _ _ _ z given ∙ admitted is
     where
       admitted : f_admissible g.fuse a b c d e f ≡ true →
           ring.product (ring.product (ring.product (ring.product (ring.conjugate (f_of ring g a b c d e f)) (vertex_of ring g g.set_w b c f)) (vertex_of ring g g.set_w a f d)) (vertex_of ring g g.set_v a b e)) (vertex_of ring g g.set_v e c d)
@@ -38,8 +38,8 @@ module _ {E : Type 0} (ring : Ring E) where
       let first = product_given ring turned.0 w one.0 one.1 ∙ ap (λ y. ring.product y w) (conjugate_given ring x turned.0 turned.1) in
       product_given ring one.0 u z one.2 ∙ ap (λ y. ring.product y u) first
 
-  pub s_given : (g : Given E) (a b c : ℕ) (z : E) → g.fuse a b c ≡ true → s_at ring g a b c ≡ Some z → z ≡ s_of ring g a b c
-  s_given g a b c z is given = three_given _ _ _ z given ∙ admitted is
+  pub s_given : (held : Held E) (g : Given E) (a b c : ℕ) (z : E) → g.fuse a b c ≡ true → s_stated (symbols_of ring held g) a b c ≡ Some z → z ≡ s_of ring g a b c
+  s_given held g a b c z is given = three_given _ _ _ z given ∙ admitted is
     where
       admitted : g.fuse a b c ≡ true →
           ring.product (ring.product (ring.conjugate (vertex_of ring g g.set_r b a c)) (vertex_of ring g g.set_w a b c)) (vertex_of ring g g.set_v b a c) ≡ s_of ring g a b c

@@ -3,7 +3,8 @@ ghost use Rattle.ring_laws.specs.Stated.{Gives};
 ghost use Rattle.fusion_rules.specs.Fusion.{fuses};
 ghost use Rattle.symbol_table.specs.Index.{AreSixLabels, AreThreeLabels};
 ghost use Rattle.symbol_table.specs.Draft.{f_index_admissible, given};
-ghost use Rattle.symbol_table.specs.Evaluated.{h_at, s_at};
+ghost use Rattle.symbol_table.specs.Category.{symbols};
+ghost use Rattle.symbol_table.specs.Evaluated.{h_stated, s_stated};
 ghost use Rattle.derive_symbols.specs.Weighted.{weighted};
 
 use ring_laws::{Overflow, StarRing};
@@ -32,7 +33,7 @@ pub(crate) fn evaluate_h<R: StarRing>(draft: &Draft<R>, at: &FIndex) -> Result<R
     requires labels { AreSixLabels draft.now.rules.count at.now.a at.now.b at.now.c at.now.d at.now.e at.now.f }
     requires admissible { IsTrue (f_index_admissible (given draft.now) at.now) }
     ensures value { Gives result
-        (h_at (R.ring draft.now.ring) (given draft.now) at.now.a at.now.b at.now.c at.now.d at.now.f at.now.e) }
+        (h_stated (symbols R.StarRing draft.now) at.now.a at.now.b at.now.c at.now.d at.now.f at.now.e) }
     ensures member { IfOk result (λ z. IsTrue ((R.ring draft.now.ring).member z)) }
 {
     let ring = draft.ring();
@@ -49,7 +50,7 @@ pub(crate) fn evaluate_h<R: StarRing>(draft: &Draft<R>, at: &FIndex) -> Result<R
 /// S(a,b,c) at an admissible index. R(b,a,c) and its inverse weight are 0 where the rules don't commute.
 pub(crate) fn evaluate_s<R: StarRing>(draft: &Draft<R>, at: &VIndex) -> Result<R::Elem, Overflow>
     requires labels { AreThreeLabels draft.now.rules.count at.now.a at.now.b at.now.c }
-    ensures value { Gives result (s_at (R.ring draft.now.ring) (given draft.now) at.now.a at.now.b at.now.c) }
+    ensures value { Gives result (s_stated (symbols R.StarRing draft.now) at.now.a at.now.b at.now.c) }
     ensures member { IfOk result (λ z. IsTrue ((R.ring draft.now.ring).member z)) }
 {
     let r = draft.r_at(at.b, at.a, at.c);

@@ -10,7 +10,7 @@
 //! Source: Kitaev 2006, Appendix E.2.
 #![tactic(auto)]
 
-ghost use Rattle.std.specs.Prelude.{[], ◌∷◌};
+ghost use Rattle.std.specs.Prelude.{◌≡◌, [], ◌∷◌};
 ghost use Rattle.derive_symbols.specs.Told.{Tells};
 
 mod evaluate;
@@ -28,6 +28,16 @@ pub enum WeightFault {
     Law(Event),
     /// There was no memory for one value more.
     Memory,
+}
+
+impl From<Event> for WeightFault {
+    ghost use Rattle.derive_symbols.specs.declared.WeightFault.TheVariants.{Law as LawFault};
+
+    ghost from_gives = { λ event e. e ≡ LawFault event };
+
+    fn from(event: Event) -> WeightFault {
+        WeightFault::Law(event)
+    }
 }
 
 /// H and S of a draft at every admissible index.

@@ -1,2 +1,1 @@
-pub mod HexagonLemmas
 pub mod Tried

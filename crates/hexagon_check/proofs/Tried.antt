@@ -6,7 +6,8 @@ use Rattle.fusion_rules.proofs.Worked.{two_labels, fib}
 use Rattle.symbol_table.specs.Symbols.{Symbols, symbols_of}
 use Rattle.symbol_table.specs.declared.law.Law.TheVariants.{HexagonOne, HexagonTwo}
 use Rattle.symbol_table.specs.declared.law.Kind.TheVariants.{Fails, Overflow}
-use Rattle.law_events.specs.Sides.{first_in, first_of, hexagon_laws, hexagon_left, hexagon_right}
+use Rattle.law_events.specs.Sides.{first_in, first_of, hexagon_left, hexagon_right}
+use Rattle.hexagon_check.specs.Exchange.{hexagon_laws}
 
 -- all labels fuse, and each symbol is another number: F is 1abcdef in digits, R is 2abc, w is 3abc, v is 4abc
 abbrev numbered : Symbols ℤ

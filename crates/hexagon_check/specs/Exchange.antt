@@ -1,5 +1,5 @@
--- The two exchanges of neighbours, each with its symbol and its hexagon.
-use Rattle.std.specs.Prelude.{ℕ, List, Option}
+-- The two exchanges of neighbours, each with its symbol.
+use Rattle.std.specs.Prelude.{ℕ, List, [], ◌∷◌, Option}
 use Rattle.symbol_table.specs.Symbols.{Symbols}
 use Rattle.symbol_table.specs.Laws.{at6}
 use Rattle.symbol_table.specs.declared.law.Law.{Law}
@@ -9,10 +9,9 @@ use Rattle.law_events.specs.Sides.{hexagon, hexagon_left, hexagon_right, hexagon
 use Rattle.hexagon_check.specs.declared.exchange.Exchange.{Exchange}
 use Rattle.hexagon_check.specs.declared.exchange.Exchange.TheVariants.{Positive, Negative}
 
--- the hexagon of an exchange
-abbrev pub law_of : Exchange → Law
-law_of Positive = HexagonOne
-law_of Negative = HexagonTwo
+-- the two hexagons, in the order of the check
+abbrev pub hexagon_laws : List Law
+hexagon_laws = HexagonOne ∷ HexagonTwo ∷ []
 
 -- the symbol of an exchange: R, or S
 abbrev pub symbol_of : {E : Type 0} → Symbols E → Exchange → ℕ → ℕ → ℕ → E

@@ -6,14 +6,15 @@ use Rattle.std.proofs.lemmas.Option.{none-some}
 use Rattle.std.proofs.Math.Nat.{eq-or-lt_of_le}
 use Rattle.std.proofs.lemmas.List.Elements.{All-head, All-tail, All-cons, All-nil}
 use Rattle.fusion_rules.specs.First.{first_from}
-use Rattle.symbol_table.specs.Symbols.{Symbols}
+use Rattle.symbol_table.specs.Symbols.{Symbols, IsOfRing}
 use Rattle.symbol_table.specs.Laws.{form_of, fuse_all, LawHolds}
 use Rattle.symbol_table.specs.declared.law.Law.{Law}
 use Rattle.symbol_table.specs.declared.law.Kind.{Kind}
 use Rattle.symbol_table.specs.declared.law.Kind.TheVariants.{Fails, Overflow}
 use Rattle.law_events.specs.First.{first_over, event_at, event_of}
 use Rattle.law_events.specs.Sides.{first_of, verdict}
-use Rattle.law_events.specs.Verdicts.{IsIndex, Fits, JudgesRight}
+use Rattle.law_events.specs.Verdicts.{IsIndex, Fits}
+use Rattle.law_events.proofs.Right.{JudgesRight}
 
 pub or_none : {E : Type 0} (x y : Option E) → option_or x y ≡ None → (x ≡ None) × (y ≡ None)
 or_none None y h = (refl, h)
@@ -82,15 +83,13 @@ module _ {E : Type 0} (c : Symbols E) where
   -- a law that is judged right and has no event holds
   pub law_holds : (law : Law) → JudgesRight c law → first_of c law ≡ None → LawHolds c law
   law_holds law right h i long labels admissible =
-      let is : IsIndex c law i = record { long = long; labels = labels; admissible = admissible } in
-      let judged = right i is in judged.true_where_none (no_verdict law h i is)
+      let here = right i in here.true_where_none (no_verdict law h i (record { long = long; labels = labels; admissible = admissible }))
 
   -- a law that is judged right, holds and fits has no event
-  pub no_event : (law : Law) → JudgesRight c law → LawHolds c law → Fits c law → first_of c law ≡ None
-  no_event law right holds fits =
+  pub no_event : (law : Law) → JudgesRight c law → IsOfRing c → LawHolds c law → Fits c law → first_of c law ≡ None
+  no_event law right are holds fits =
       no_first c.count (form_of law).places (event_at c.fuse law (verdict c law)) []
       (λ i long labels. event_none (fuse_all c.fuse i (form_of law).triples) law i (verdict c law i)
       (λ admissible.
-      let is : IsIndex c law i = record { long = long; labels = labels; admissible = admissible } in
-      let judged = right i is in
-      neither (verdict c law i) (judged.never_fails (holds i long labels admissible)) (fits i is)))
+      let here = right i in
+      neither (verdict c law i) (here.never_fails are (holds i long labels admissible)) (fits i (record { long = long; labels = labels; admissible = admissible }))))

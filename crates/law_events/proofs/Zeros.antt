@@ -57,3 +57,6 @@ module _ {E : Type 0} (ring : Ring E) (held : Held E) (laws : RingLaws ring held
 
   pub third_gone : (x y z : E) → z ≡ ring.zero → ring.product (ring.product x y) z ≡ ring.zero
   third_gone x y z e = ap (ring.product (ring.product x y)) e ∙ laws.product-zero (ring.product x y)
+
+  pub right_gone : (x y : E) → y ≡ ring.zero → ring.product x y ≡ ring.zero
+  right_gone x y e = ap (ring.product x) e ∙ laws.product-zero x

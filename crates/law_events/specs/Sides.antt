@@ -8,7 +8,8 @@ use Rattle.ring_laws.specs.Ring.{Held}
 use Rattle.ring_laws.specs.Stated.{◌>>=◌, product_at, product3_at, conjugate_at, add_product_at, add_product3_at, steps}
 use Rattle.fusion_rules.specs.Check.{dual_of}
 use Rattle.symbol_table.specs.Symbols.{Symbols}
-use Rattle.symbol_table.specs.Laws.{at1, at3, at6, at9, identity_at}
+use Rattle.symbol_table.specs.Evaluated.{h_stated, s_stated}
+use Rattle.symbol_table.specs.Laws.{at1, at3, at6, at9, identity_at, laws_of}
 use Rattle.symbol_table.specs.declared.law.Law.{Law}
 use Rattle.symbol_table.specs.declared.law.Law.TheVariants.{UnitF, UnitR, UnitW, RealW, InverseW, NormR, DeriveH, DeriveS, InverseF, InverseH, Rigid, Pentagon, HexagonOne, HexagonTwo}
 use Rattle.symbol_table.specs.declared.law.Kind.{Kind}
@@ -52,22 +53,6 @@ module _ {E : Type 0} (c : Symbols E) where
 
   abbrev pub norm_r : ℕ → ℕ → ℕ → Option Kind
   norm_r a b k = judged c.held (norm_r_left a b k) (Some (c.w a b k))
-
-  -- conj(F(a,b,c,d;e,f)) w(b,c,f) w(a,f,d) v(a,b,e) v(e,c,d)
-  abbrev pub h_stated : ℕ → ℕ → ℕ → ℕ → ℕ → ℕ → Option E
-  h_stated a b k d f e = do
-    turned ← conjugate_at c.ring (c.f a b k d e f)
-    one ← product_at c.ring turned (c.w b k f)
-    two ← product_at c.ring one (c.w a f d)
-    three ← product_at c.ring two (c.v a b e)
-    product_at c.ring three (c.v e k d)
-
-  -- conj(R(b,a,c)) w(a,b,c) v(b,a,c)
-  abbrev pub s_stated : ℕ → ℕ → ℕ → Option E
-  s_stated a b k = do
-    turned ← conjugate_at c.ring (c.r b a k)
-    weighted ← product_at c.ring turned (c.w a b k)
-    product_at c.ring weighted (c.v b a k)
 
   -- the term F(a,b,c,d;e,f) H(a,b,c,d;f,g) of a sum over f
   abbrev pub inverse_f_step : ℕ → ℕ → ℕ → ℕ → ℕ → ℕ → ℕ → E → Option E
@@ -137,8 +122,8 @@ module _ {E : Type 0} (c : Symbols E) where
   verdict RealW = at3 real_w
   verdict InverseW = at3 inverse_w
   verdict NormR = at3 norm_r
-  verdict DeriveH = at6 (λ a b k d f e. evaluated (h_stated a b k d f e))
-  verdict DeriveS = at3 (λ a b k. evaluated (s_stated a b k))
+  verdict DeriveH = at6 (λ a b k d f e. evaluated (h_stated c a b k d f e))
+  verdict DeriveS = at3 (λ a b k. evaluated (s_stated c a b k))
   verdict InverseF = at6 inverse_f
   verdict InverseH = at6 inverse_h
   verdict Rigid = at1 rigid
@@ -155,13 +140,6 @@ module _ {E : Type 0} (c : Symbols E) where
   first_in [] = None
   first_in (law ∷ laws) = option_or (first_of law) (first_in laws)
 
--- All laws, in the order of the check: those of one symbol, weight or vertex, the pentagon, the hexagons.
-abbrev pub weight_laws : List Law
-weight_laws = UnitF ∷ UnitR ∷ UnitW ∷ RealW ∷ InverseW ∷ NormR ∷ DeriveH ∷ DeriveS ∷ InverseF ∷ InverseH ∷ Rigid ∷ []
-
-abbrev pub hexagon_laws : List Law
-hexagon_laws = HexagonOne ∷ HexagonTwo ∷ []
-
--- the first event of a draft's symbols
-abbrev pub first_of_all : {E : Type 0} → Symbols E → Option Event
-first_of_all c = option_or (first_in c weight_laws) (option_or (first_of c Pentagon) (first_in c hexagon_laws))
+  -- the first event of the laws of the version
+  abbrev pub first_of_all : Option Event
+  first_of_all = first_in (laws_of c.version)

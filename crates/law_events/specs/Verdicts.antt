@@ -1,27 +1,38 @@
--- When a law's verdicts are right, and when its items fit.
+-- When laws hold, and when their items fit.
 use Rattle.std.specs.Prelude.{◌≡◌, ℕ, ◌<◌, List, All, length, true, Some, None}
 use Rattle.symbol_table.specs.Symbols.{Symbols}
-use Rattle.symbol_table.specs.Laws.{Holds, equation_of, form_of, fuse_all}
+use Rattle.symbol_table.specs.Laws.{LawHolds, form_of, fuse_all, laws_of}
 use Rattle.symbol_table.specs.declared.law.Law.{Law}
-use Rattle.symbol_table.specs.declared.law.Kind.TheVariants.{Fails, Overflow}
-use Rattle.law_events.specs.Sides.{verdict}
+use Rattle.symbol_table.specs.declared.law.Kind.TheVariants.{Overflow}
+use Rattle.law_events.specs.Sides.{first_of_all, verdict}
 
-module _ {E : Type 0} (c : Symbols E) (law : Law) where
-  -- an index of the law: as many labels below the count as it has places, which fuse at each of its triples
-  pub record IsIndex (i : List ℕ) : Type 0 where
+module _ {E : Type 0} (c : Symbols E) where
+  -- an index of a law: as many labels below the count as it has places, which fuse at each of its triples
+  pub record IsIndex (law : Law) (i : List ℕ) : Type 0 where
     pub long : length i ≡ (form_of law).places
     pub labels : All (λ t. t < c.count) i
     pub admissible : fuse_all c.fuse i (form_of law).triples ≡ true
 
-  -- every item of the law fits
-  abbrev pub Fits : Type 0
-  Fits = (i : List ℕ) → IsIndex i → verdict c law i ≡ Some Overflow → ⊥
+  -- every item of a law fits
+  abbrev pub Fits : Law → Type 0
+  Fits law = (i : List ℕ) → IsIndex law i → verdict c law i ≡ Some Overflow → ⊥
 
-  -- where nothing is wrong the equation is true, and where the equation is true it isn't said to fail
-  pub record IsJudged (i : List ℕ) : Type 0 where
-    pub true_where_none : verdict c law i ≡ None → Holds c.ring (equation_of c law i)
-    pub never_fails : Holds c.ring (equation_of c law i) → verdict c law i ≡ Some Fails → ⊥
+  -- each of some laws holds
+  abbrev pub AllHold : List Law → Type 0
+  AllHold laws = All (LawHolds c) laws
 
-  -- so at every index of the law
-  abbrev pub JudgesRight : Type 0
-  JudgesRight = (i : List ℕ) → IsIndex i → IsJudged i
+  -- every item of each of some laws fits
+  abbrev pub AllFit : List Law → Type 0
+  AllFit laws = All Fits laws
+
+  -- every item of the check fits
+  abbrev pub EveryItemFits : Type 0
+  EveryItemFits = AllFit (laws_of c.version)
+
+  -- without an event each law of the version holds
+  abbrev pub HoldsWithoutEvent : Type 0
+  HoldsWithoutEvent = first_of_all c ≡ None → AllHold (laws_of c.version)
+
+  -- laws that hold and whose items all fit have no event
+  abbrev pub NoEventWhereHolds : Type 0
+  NoEventWhereHolds = AllHold (laws_of c.version) → EveryItemFits → first_of_all c ≡ None

@@ -1,35 +1,16 @@
-ghost use Rattle.std.specs.Prelude.{◌≡◌, ◌<◌, ◌+◌, ℕ, List, [], Option, All, length};
+ghost use Rattle.std.specs.Prelude.{◌≡◌, ◌<◌, ◌+◌, All, IsOk, OnOk, length};
+ghost use Rattle.fusion_rules.specs.First.{Answers};
 ghost use Rattle.fusion_rules.specs.Fusion.{Fusion, fuses};
-ghost use Rattle.symbol_table.specs.Laws.{form_of};
-ghost use Rattle.symbol_table.specs.declared.law.Law.{Law};
-ghost use Rattle.symbol_table.specs.declared.law.Kind.{Kind};
-ghost use Rattle.law_events.specs.First.{event_at, event_of, first_event, first_over, fuse_known, within};
+ghost use Rattle.symbol_table.specs.Laws.{LawHolds, form_of};
+ghost use Rattle.symbol_table.specs.Category.{symbols};
+ghost use Rattle.law_events.specs.First.{event_at, event_of, first_over, fuse_known, within};
+ghost use Rattle.law_events.specs.Sides.{first_of, verdict};
+ghost use Rattle.law_events.specs.Verdicts.{Fits};
+ghost use Rattle.law_events.specs.Judge.{Judges};
 
 use fusion_rules::Rules;
-use symbol_table::{Event, Kind, Labels, Law, Triple};
-
-/// A law over the labels of some fusion rules, with its verdict at each admissible index.
-pub trait Judge {
-    ghost fusion: { Self → Fusion };
-
-    ghost law: { Self → Law };
-
-    ghost verdict: { Self → List ℕ → Option Kind };
-
-    /// The fusion rules.
-    fn rules(&self) -> &Rules
-        ensures { result.now ≡ fusion self.now };
-
-    /// The law.
-    fn law(&self) -> Law
-        ensures { result ≡ law self.now };
-
-    /// What is wrong at an admissible index of the law, if anything is.
-    fn judge(&self, index: &[u8]) -> Option<Kind>
-        requires long { length index.now ≡ (form_of (law self.now)).places }
-        requires labels { All (λ t. t < (fusion self.now).count) index.now }
-        ensures { result ≡ verdict self.now index.now };
-}
+use ring_laws::StarRing;
+use symbol_table::{Draft, Event, Kind, Labels, Law, Triple};
 
 fn is_within(triple: &Triple, places: usize) -> bool
     ensures { result ≡ within places triple.now }
@@ -59,50 +40,51 @@ fn fuse_known(rules: &Rules, index: &[u8], triples: &[Triple]) -> bool
 }
 
 /// How many labels there are.
-fn count<J: Judge>(judge: &J) -> u8
-    ensures { result ≡ (J.fusion judge.now).count }
+fn count<R: StarRing>(draft: &Draft<R>) -> u8
+    ensures { result ≡ draft.now.rules.count }
 {
-    judge.rules().count()
+    draft.rules().count()
 }
 
-/// Whether the labels of a part of an index fuse at each triple of the law that lies within it.
-fn goes_on<J: Judge>(judge: &J, index: &[u8]) -> bool
-    requires { All (λ t. t < (J.fusion judge.now).count) index.now }
-    ensures { result ≡ fuse_known (fuses (J.fusion judge.now)) index.now (form_of (J.law judge.now)).triples }
+/// The event of a law at an admissible index.
+fn event_at<R: StarRing, J: Fn(&[u8]) -> Option<Kind>>(
+    draft: &Draft<R>,
+    law: Law,
+    judge: &J,
+    index: Labels,
+) -> Option<Event>
+    requires judges { Judges J.Fn judge.now (symbols R.StarRing draft.now) law }
+    requires long { length index ≡ (form_of law).places }
+    requires labels { All (λ t. t < draft.now.rules.count) index }
+    ensures { result ≡ event_of law index (verdict (symbols R.StarRing draft.now) law index) }
 {
-    fuse_known(judge.rules(), index, judge.law().triples())
-}
-
-/// The event at an admissible index.
-fn event_at<J: Judge>(judge: &J, index: Labels) -> Option<Event>
-    requires long { length index ≡ (form_of (J.law judge.now)).places }
-    requires labels { All (λ t. t < (J.fusion judge.now).count) index }
-    ensures { result ≡ event_of (J.law judge.now) index (J.verdict judge.now index) }
-{
-    let kind = judge.judge(index.as_slice())?;
-    Some(Event {
-        kind,
-        law: judge.law(),
-        index,
-    })
+    let kind = judge(index.as_slice())?;
+    Some(Event { kind, law, index })
 }
 
 /// The first event at an index that goes on with so many more labels. Parts of an index at which a triple
 /// doesn't fuse aren't gone on with.
 #[tactic(auto, using(crate::proofs::Left::next, crate::proofs::Left::stopped, crate::proofs::Left::whole_law, crate::proofs::Left::first_more))]
-fn first_over<J: Judge>(judge: &J, more: u8, index: Labels) -> Option<Event>
-    requires long { length index + more ≡ (form_of (J.law judge.now)).places }
-    requires labels { All (λ t. t < (J.fusion judge.now).count) index }
-    ensures { result ≡ first_over (J.fusion judge.now).count (event_at (fuses (J.fusion judge.now)) (J.law judge.now) (J.verdict judge.now)) more index }
+fn first_over<R: StarRing, J: Fn(&[u8]) -> Option<Kind>>(
+    draft: &Draft<R>,
+    law: Law,
+    judge: &J,
+    more: u8,
+    index: Labels,
+) -> Option<Event>
+    requires judges { Judges J.Fn judge.now (symbols R.StarRing draft.now) law }
+    requires long { length index + more ≡ (form_of law).places }
+    requires labels { All (λ t. t < draft.now.rules.count) index }
+    ensures { result ≡ first_over draft.now.rules.count (event_at (fuses draft.now.rules) law (verdict (symbols R.StarRing draft.now) law)) more index }
 {
-    if !goes_on(judge, index.as_slice()) {
+    if !fuse_known(draft.rules(), index.as_slice(), law.triples()) {
         return None;
     }
     if more == 0 {
-        return event_at(judge, index);
+        return event_at(draft, law, judge, index);
     }
-    for t in 0..count(judge) {
-        let found = first_over(judge, more - 1, index.with(t));
+    for t in 0..count(draft) {
+        let found = first_over(draft, law, judge, more - 1, index.with(t));
         if found.is_some() {
             return found;
         }
@@ -110,10 +92,38 @@ fn first_over<J: Judge>(judge: &J, more: u8, index: Labels) -> Option<Event>
     None
 }
 
-/// The first event of a law: the first admissible index, in the order of the labels with the first label
-/// slowest, at which something is wrong.
-pub fn first<J: Judge>(judge: &J) -> Option<Event>
-    ensures { result ≡ first_event (J.fusion judge.now).count (fuses (J.fusion judge.now)) (J.law judge.now) (J.verdict judge.now) }
+/// The first event of a law.
+fn first<R: StarRing, J: Fn(&[u8]) -> Option<Kind>>(
+    draft: &Draft<R>,
+    law: Law,
+    judge: &J,
+) -> Option<Event>
+    requires judges { Judges J.Fn judge.now (symbols R.StarRing draft.now) law }
+    ensures { result ≡ first_of (symbols R.StarRing draft.now) law }
 {
-    first_over(judge, judge.law().places(), Labels::new())
+    first_over(draft, law, judge, law.places(), Labels::new())
+}
+
+/// Whether a law holds at every index of a draft, by a function that tells its verdict at an index: else the first
+/// event, in the order of the labels with the first label slowest.
+///
+/// `Fails` comes where all items fit and the equation is false, `Overflow` where an item doesn't fit. Takes no
+/// memory.
+pub fn check<R: StarRing, J: Fn(&[u8]) -> Option<Kind> + Drop>(
+    draft: &Draft<R>,
+    law: Law,
+    judge: J,
+) -> Result<(), Event>
+    requires judges { Judges J.Fn judge (symbols R.StarRing draft.now) law }
+    ensures event { Answers result (first_of (symbols R.StarRing draft.now) law) }
+    ensures lawful { OnOk result (LawHolds (symbols R.StarRing draft.now) law) }
+    ensures complete { LawHolds (symbols R.StarRing draft.now) law
+        → Fits (symbols R.StarRing draft.now) law → IsOk result }
+{
+    // Says that the values are of the ring.
+    draft.f_is_of_ring();
+    match first(draft, law, &judge) {
+        None => Ok(()),
+        Some(event) => Err(event),
+    }
 }

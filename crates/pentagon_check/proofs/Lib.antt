@@ -1,2 +1,1 @@
-pub mod PentagonLemmas
 pub mod Tried

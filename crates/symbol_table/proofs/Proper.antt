@@ -6,7 +6,7 @@ use Rattle.std.proofs.lemmas.Map.Views.{IfSome-lookup_from_All}
 use Rattle.ring_laws.specs.Ring.{Ring, Held}
 use Rattle.ring_laws.proofs.SumLemmas.{if_no}
 use Rattle.symbol_table.specs.Index.{AreThreeLabels}
-use Rattle.symbol_table.specs.Symbols.{Given, f_admissible, symbols_of}
+use Rattle.symbol_table.specs.Symbols.{Given, IsOfRing, f_admissible, symbols_of}
 use Rattle.symbol_table.specs.Draft.{AreMembers, DraftValue, IsOver, given}
 use Rattle.symbol_table.specs.AllLabels.{IsProper}
 use Rattle.symbol_table.proofs.MemberLemmas.{HasZero, h_member, s_member}
@@ -42,6 +42,10 @@ module _ {E : Type 0} (ring : Ring E) (held : Held E) (basic : HasZero ring) whe
     w_off = λ a b e off. if_no (g.fuse a b e) _ ring.zero off;
     v_off = λ a b e off. if_no (g.fuse a b e) _ ring.zero off;
   }
+
+  -- every F is of the ring
+  pub is_of_ring : (g : Given E) → GivesMembers ring g → IsOfRing (symbols_of ring held g)
+  is_of_ring g members a b k d e f = value_is (f_admissible g.fuse a b k d e f) (g.set_f a b k d e f) (members.f a b k d e f)
 
 -- the values of a draft
 found_member : {K E : Type 0} (ring : Ring E) (test : K → Bool) (entries : List (K × E)) → AreMembers ring entries → IfSome (lookup test entries) (λ x. IsTrue (ring.member x))

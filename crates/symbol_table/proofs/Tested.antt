@@ -1,8 +1,10 @@
 -- Laws that hold since every index was tried.
 use Rattle.std.proofs.Common.{◌≡◌, ℕ, zero, suc, ◌<◌, Bool, true, false, ◌&&◌, ◌||◌, not, List, [], ◌∷◌, ◌++◌, length, refl, sym, ap, ◌∙◌, arith, append_assoc, append-nil, inl, inr, true≢false}
 use Rattle.std.specs.Prelude.{All}
+use Rattle.std.specs.List.{list_all}
 use Rattle.std.proofs.lemmas.Bool.{cases_eq}
-use Rattle.std.proofs.lemmas.List.Elements.{All-head, All-tail}
+use Rattle.std.proofs.lemmas.List.Elements.{All-head, All-tail, All-weaker}
+use Rattle.std.proofs.lemmas.List.Sums.{AllPass-from_list_all}
 use Rattle.ring_laws.specs.Ring.{Ring, Held}
 use Rattle.symbol_table.specs.Symbols.{Symbols}
 use Rattle.symbol_table.specs.Laws.{Equation, Same, NotZero, Free, Holds, LawHolds, equation_of, form_of, fuse_all}
@@ -67,3 +69,9 @@ tried_law c sound complete law h i long below admissible =
     met_holds c.ring c.held sound complete (equation_of c law i)
     (by_admissible (fuse_all c.fuse i (form_of law).triples) (is_met c.ring c.held (equation_of c law i))
     (over_at c.count test [] i (ap (λ k. all_over c.count k test []) long ∙ h) below) admissible)
+
+-- and so each law of a list that was tried
+pub tried_laws : {E : Type 0} (c : Symbols E) → ((x y : E) → c.held.equal x y ≡ true → x ≡ y) → ((x y : E) → x ≡ y → c.held.equal x y ≡ true) → (laws : List Law)
+    → list_all (is_lawful_at c) laws ≡ true → All (LawHolds c) laws
+tried_laws c sound complete laws h =
+    All-weaker (λ law. is_lawful_at c law ≡ true) (LawHolds c) (tried_law c sound complete) laws (AllPass-from_list_all (is_lawful_at c) laws h)

@@ -3,11 +3,12 @@ use Rattle.std.specs.Prelude.{◌≡◌, ℕ, ◌+◌, ◌*◌, Bool, true, fals
 use Rattle.std.proofs.Common.{arith}
 use Rattle.std.proofs.lemmas.Bool.Decides.{nat_tests}
 use Rattle.ring_laws.specs.Ring.{Ring}
-use Rattle.ring_laws.specs.Whole.{whole_ring, most}
+use Rattle.ring_laws.specs.Whole.{whole_ring, whole_held, most}
 use Rattle.fusion_rules.specs.Fusion.{fuses}
 use Rattle.fusion_rules.proofs.Worked.{fib, one_label}
-use Rattle.symbol_table.specs.Symbols.{Given, f_of, vertex_of, h_of, s_of}
-use Rattle.symbol_table.specs.Evaluated.{h_at, s_at}
+use Rattle.symbol_table.specs.Symbols.{Given, Symbols, f_of, vertex_of, h_of, s_of, symbols_of}
+use Rattle.symbol_table.specs.Evaluated.{h_stated, s_stated}
+use Rattle.symbol_table.specs.Laws.{Same, Free, unit_f_says, unit_says, norm_r_says, real_w_says, inverse_w_says}
 use Rattle.symbol_table.specs.Index.{f_index, v_index}
 use Rattle.symbol_table.specs.Draft.{DraftValue, given, with_f, f_fault}
 use Rattle.symbol_table.specs.Derived.{DerivedValue, HoldsSymbols}
@@ -33,15 +34,51 @@ numbered = record {
 pub h_by_hand : h_of turned_ring numbered 1 2 3 4 5 6 ≡ neg_ℤ (pos 219169831736537011400)
 h_by_hand = refl
 
-pub h_stated : h_at turned_ring numbered 1 2 3 4 5 6 ≡ Some (neg_ℤ (pos 219169831736537011400))
-h_stated = refl
+pub h_evaluated : h_stated (symbols_of turned_ring whole_held numbered) 1 2 3 4 5 6 ≡ Some (neg_ℤ (pos 219169831736537011400))
+h_evaluated = refl
 
 -- conj(R(2,1,0)) w(1,2,0) v(2,1,0) = -2210 · 3120 · 4210
 pub s_by_hand : s_of turned_ring numbered 1 2 0 ≡ neg_ℤ (pos 29028792000)
 s_by_hand = refl
 
-pub s_stated : s_at turned_ring numbered 1 2 0 ≡ Some (neg_ℤ (pos 29028792000))
-s_stated = refl
+pub s_evaluated : s_stated (symbols_of turned_ring whole_held numbered) 1 2 0 ≡ Some (neg_ℤ (pos 29028792000))
+s_evaluated = refl
+
+-- what laws say at distinct numbers
+abbrev turned : Symbols ℤ
+turned = symbols_of turned_ring whole_held numbered
+
+pub unit_f_first : unit_f_says turned 0 1 2 3 4 5 ≡ Same (pos 1012345) (pos 1)
+unit_f_first = refl
+
+pub unit_f_second : unit_f_says turned 1 0 2 3 4 5 ≡ Same (pos 1102345) (pos 1)
+unit_f_second = refl
+
+pub unit_f_third : unit_f_says turned 1 2 0 3 4 5 ≡ Same (pos 1120345) (pos 1)
+unit_f_third = refl
+
+pub no_unit_f : unit_f_says turned 1 2 3 4 5 6 ≡ Free
+no_unit_f = refl
+
+pub unit_r_first : unit_says turned turned.r 0 1 2 ≡ Same (pos 2012) (pos 1)
+unit_r_first = refl
+
+pub unit_r_second : unit_says turned turned.r 1 0 2 ≡ Same (pos 2102) (pos 1)
+unit_r_second = refl
+
+pub no_unit_r : unit_says turned turned.r 1 2 0 ≡ Free
+no_unit_r = refl
+
+-- R(1,2,0) conj(R(1,2,0)) w(2,1,0) = -2120 · 2120 · 3210
+pub norm_r_by_hand : norm_r_says turned 1 2 0 ≡ Same (neg_ℤ (pos 14427024000)) (pos 3120)
+norm_r_by_hand = refl
+
+pub real_w_by_hand : real_w_says turned 1 2 0 ≡ Same (neg_ℤ (pos 3120)) (pos 3120)
+real_w_by_hand = refl
+
+-- 3120 · 4120
+pub inverse_w_by_hand : inverse_w_says turned 1 2 0 ≡ Same (pos 12854400) (pos 1)
+inverse_w_by_hand = refl
 
 -- Fibonacci rules with two values of F and one of R
 abbrev partly : DraftValue ℕ ℤ
@@ -92,14 +129,14 @@ f_set_now = refl
 abbrev edge : Given ℤ
 edge = record numbered { set_w = λ a b c. Some (pos most) }
 
-pub h_too_large : h_at whole_ring edge 1 2 3 4 5 6 ≡ None
+pub h_too_large : h_stated (symbols_of whole_ring whole_held edge) 1 2 3 4 5 6 ≡ None
 h_too_large = refl
 
-pub s_too_large : s_at whole_ring edge 1 2 0 ≡ None
+pub s_too_large : s_stated (symbols_of whole_ring whole_held edge) 1 2 0 ≡ None
 s_too_large = refl
 
 -- a conjugate that doesn't fit stops both before any product
-pub no_conjugate : s_at (record whole_ring { conjugate_fits = λ x. false }) numbered 1 2 0 ≡ None
+pub no_conjugate : s_stated (symbols_of (record whole_ring { conjugate_fits = λ x. false }) whole_held numbered) 1 2 0 ≡ None
 no_conjugate = refl
 
 -- the unit alone: H and S are 1, and a derived value that holds them

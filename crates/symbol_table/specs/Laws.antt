@@ -1,5 +1,5 @@
 -- The laws of a braided fusion category: the indices of each, and its equation over ring values.
-use Rattle.std.specs.Prelude.{◌≡◌, ◌≢◌, ℕ, ◌<◌, Bool, true, ◌&&◌, ◌||◌, ◌==◌, List, [], ◌∷◌, All, length, slice_index, if◌then◌else◌}
+use Rattle.std.specs.Prelude.{◌≡◌, ◌≢◌, ℕ, ◌<◌, Bool, true, ◌&&◌, ◌||◌, ◌==◌, List, [], ◌∷◌, All, length, slice_index, slice_index_or, codes, if◌then◌else◌}
 use Rattle.ring_laws.specs.Ring.{Ring}
 use Rattle.ring_laws.specs.Sums.{total}
 use Rattle.fusion_rules.specs.Check.{RulesPass, dual_of}
@@ -8,47 +8,75 @@ use Rattle.symbol_table.specs.declared.law.Law.{Law}
 use Rattle.symbol_table.specs.declared.law.Law.TheVariants.{UnitF, UnitR, UnitW, RealW, InverseW, NormR, DeriveH, DeriveS, InverseF, InverseH, Rigid, Pentagon, HexagonOne, HexagonTwo}
 use Rattle.symbol_table.specs.declared.law.Triple.{Triple}
 
--- How many labels an index of a law has, and at which places three of them have to fuse.
+-- A row of the table of laws: the name that is written, how many labels an index has, and at which places three of
+-- them have to fuse.
 pub record Form : Type 0 where
+  pub name : List ℕ
   pub places : ℕ
   pub triples : List Triple
 
 abbrev pub fuse_at : ℕ → ℕ → ℕ → Triple
 fuse_at a b c = record { a = a; b = b; c = c }
 
-abbrev pub vertex_form : Form
-vertex_form = record { places = 3; triples = fuse_at 0 1 2 ∷ [] }
+-- a b c, with N(a,b,c)
+abbrev pub vertex_triples : List Triple
+vertex_triples = fuse_at 0 1 2 ∷ []
+
+-- a b c d e f, where F(a,b,c,d;e,f) is admissible
+abbrev pub unit_f_triples : List Triple
+unit_f_triples = fuse_at 0 1 4 ∷ fuse_at 4 2 3 ∷ fuse_at 1 2 5 ∷ fuse_at 0 5 3 ∷ []
+
+-- a b c d f e, where F(a,b,c,d;e,f) is admissible
+abbrev pub derive_h_triples : List Triple
+derive_h_triples = fuse_at 0 1 5 ∷ fuse_at 5 2 3 ∷ fuse_at 1 2 4 ∷ fuse_at 0 4 3 ∷ []
+
+-- a b c d e g, with N(a,b,e), N(e,c,d), N(a,b,g), N(g,c,d)
+abbrev pub inverse_f_triples : List Triple
+inverse_f_triples = fuse_at 0 1 4 ∷ fuse_at 4 2 3 ∷ fuse_at 0 1 5 ∷ fuse_at 5 2 3 ∷ []
+
+-- a b c d f g, with N(b,c,f), N(a,f,d), N(b,c,g), N(a,g,d)
+abbrev pub inverse_h_triples : List Triple
+inverse_h_triples = fuse_at 1 2 4 ∷ fuse_at 0 4 3 ∷ fuse_at 1 2 5 ∷ fuse_at 0 5 3 ∷ []
+
+-- p l m r x y z f q, with N(p,l,x), N(x,m,y), N(y,r,z), N(m,r,f), N(l,f,q), N(p,q,z)
+abbrev pub pentagon_triples : List Triple
+pentagon_triples = fuse_at 0 1 4 ∷ fuse_at 4 2 5 ∷ fuse_at 5 3 6 ∷ fuse_at 2 3 7 ∷ fuse_at 1 7 8 ∷ fuse_at 0 8 6 ∷ []
 
 -- a b c d e f, with N(a,b,e), N(e,c,d), N(c,a,f), N(b,f,d)
-abbrev pub hexagon_form : Form
-hexagon_form = record { places = 6; triples = fuse_at 0 1 4 ∷ fuse_at 4 2 3 ∷ fuse_at 2 0 5 ∷ fuse_at 1 5 3 ∷ [] }
+abbrev pub hexagon_triples : List Triple
+hexagon_triples = fuse_at 0 1 4 ∷ fuse_at 4 2 3 ∷ fuse_at 2 0 5 ∷ fuse_at 1 5 3 ∷ []
 
+abbrev vertex : List ℕ → Form
+vertex name = record { name = name; places = 3; triples = vertex_triples }
+
+abbrev six : List ℕ → List Triple → Form
+six name triples = record { name = name; places = 6; triples = triples }
+
+-- The table of laws. What each says stands in `equation_of` below.
 abbrev pub form_of : Law → Form
--- a b c d e f, where F(a,b,c,d;e,f) is admissible
-form_of UnitF = record { places = 6; triples = fuse_at 0 1 4 ∷ fuse_at 4 2 3 ∷ fuse_at 1 2 5 ∷ fuse_at 0 5 3 ∷ [] }
-form_of UnitR = vertex_form
-form_of UnitW = vertex_form
-form_of RealW = vertex_form
-form_of InverseW = vertex_form
-form_of NormR = vertex_form
--- a b c d f e, where F(a,b,c,d;e,f) is admissible
-form_of DeriveH = record { places = 6; triples = fuse_at 0 1 5 ∷ fuse_at 5 2 3 ∷ fuse_at 1 2 4 ∷ fuse_at 0 4 3 ∷ [] }
-form_of DeriveS = vertex_form
--- a b c d e g, with N(a,b,e), N(e,c,d), N(a,b,g), N(g,c,d)
-form_of InverseF = record { places = 6; triples = fuse_at 0 1 4 ∷ fuse_at 4 2 3 ∷ fuse_at 0 1 5 ∷ fuse_at 5 2 3 ∷ [] }
--- a b c d f g, with N(b,c,f), N(a,f,d), N(b,c,g), N(a,g,d)
-form_of InverseH = record { places = 6; triples = fuse_at 1 2 4 ∷ fuse_at 0 4 3 ∷ fuse_at 1 2 5 ∷ fuse_at 0 5 3 ∷ [] }
-form_of Rigid = record { places = 1; triples = [] }
--- p l m r x y z f q, with N(p,l,x), N(x,m,y), N(y,r,z), N(m,r,f), N(l,f,q), N(p,q,z)
-form_of Pentagon =
-    record { places = 9; triples = fuse_at 0 1 4 ∷ fuse_at 4 2 5 ∷ fuse_at 5 3 6 ∷ fuse_at 2 3 7 ∷ fuse_at 1 7 8 ∷ fuse_at 0 8 6 ∷ [] }
-form_of HexagonOne = hexagon_form
-form_of HexagonTwo = hexagon_form
+form_of UnitF = six (codes "unit-f") unit_f_triples
+form_of UnitR = vertex (codes "unit-r")
+form_of UnitW = vertex (codes "unit-w")
+form_of RealW = vertex (codes "real-w")
+form_of InverseW = vertex (codes "inverse-w")
+form_of NormR = vertex (codes "norm-r")
+form_of DeriveH = six (codes "derive-h") derive_h_triples
+form_of DeriveS = vertex (codes "derive-s")
+form_of InverseF = six (codes "inverse-f") inverse_f_triples
+form_of InverseH = six (codes "inverse-h") inverse_h_triples
+form_of Rigid = record { name = codes "rigid"; places = 1; triples = [] }
+form_of Pentagon = record { name = codes "pentagon"; places = 9; triples = pentagon_triples }
+form_of HexagonOne = six (codes "hexagon-1") hexagon_triples
+form_of HexagonTwo = six (codes "hexagon-2") hexagon_triples
 
 -- The laws of a version, in the order of the check: those of one symbol, weight or vertex, the pentagon, the hexagons.
 abbrev pub laws_of : ℕ → List Law
 laws_of version =
     UnitF ∷ UnitR ∷ UnitW ∷ RealW ∷ InverseW ∷ NormR ∷ DeriveH ∷ DeriveS ∷ InverseF ∷ InverseH ∷ Rigid ∷ Pentagon ∷ HexagonOne ∷ HexagonTwo ∷ []
+
+-- every law stands in a list
+abbrev pub HasEveryLaw : List Law → Type 0
+HasEveryLaw laws = (law : Law) → (k : ℕ) × (k < length laws) × (slice_index_or laws k law ≡ law)
 
 -- the labels at three places of an index fuse
 abbrev pub fuses_at : (ℕ → ℕ → ℕ → Bool) → List ℕ → Triple → Bool
@@ -163,7 +191,7 @@ module _ {E : Type 0} (c : Symbols E) where
       (i : List ℕ) → length i ≡ (form_of law).places → All (λ t. t < c.count) i → fuse_all c.fuse i (form_of law).triples ≡ true
       → Holds c.ring (equation_of law i)
 
-  -- The rules pass, and every equation of every law of the version is true. There is no order here, and no early end.
+  -- The rules pass, and every equation of every law of the version is true. The order of the laws says nothing here.
   pub record IsLawful : Type 0 where
     pub rules : RulesPass c.count c.fuse
     pub laws : All LawHolds (laws_of c.version)

@@ -1,5 +1,5 @@
 -- The symbols of a category at all labels.
-use Rattle.std.specs.Prelude.{ℕ, Bool, Option, unwrap_or, ◌&&◌, if◌then◌else◌}
+use Rattle.std.specs.Prelude.{ℕ, Bool, IsTrue, Option, unwrap_or, ◌&&◌, if◌then◌else◌}
 use Rattle.ring_laws.specs.Ring.{Ring, Held}
 
 -- What a draft gives: the version of its laws, how many labels there are, which triples fuse, and the values that
@@ -73,3 +73,7 @@ symbols_of ring held g = record {
   w = vertex_of ring g g.set_w;
   v = vertex_of ring g g.set_v;
 }
+
+-- every F is of the ring
+abbrev pub IsOfRing : {E : Type 0} → Symbols E → Type 0
+IsOfRing c = (a b k d e f : ℕ) → IsTrue (c.ring.member (c.f a b k d e f))

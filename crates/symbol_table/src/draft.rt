@@ -1,6 +1,7 @@
 ghost use Rattle.std.specs.Prelude.{◌≡◌, ◌<◌, ◌≤◌, ℕ, [], IsTrue, OnOk, Option, Some, None, is_some, unwrap_or, if◌then◌else◌, List};
 ghost use Rattle.fusion_rules.specs.Fusion.{fuses};
 ghost use Rattle.symbol_table.specs.Index.{AreSixLabels, AreThreeLabels};
+ghost use Rattle.symbol_table.specs.Symbols.{IsOfRing};
 ghost use Rattle.symbol_table.specs.Category.{symbols};
 ghost use Rattle.symbol_table.specs.Draft.{DraftValue, IsMember, IsOver, Sets, SetsF, SetsVertex, f_fault, f_index_admissible, given, vertex_fault, with_f, with_r, with_v, with_w};
 
@@ -87,6 +88,14 @@ impl<R: StarRing> Draft<R> {
         ensures { result.now ≡ self.now.rules }
     {
         &self.rules
+    }
+
+    /// Every F of the draft is of its ring.
+    pub fn f_is_of_ring(&self)
+        ensures { IsOfRing (symbols R.StarRing self.now) }
+    {
+        // Opens what the draft keeps of its values.
+        let _ring = &self.ring;
     }
 
     /// F at an admissible index: the value that was set, or 1.

@@ -1,5 +1,5 @@
 ghost use Rattle.std.specs.Prelude.{◌≡◌, ◌<◌, ◌≤◌, ◌++◌, [], ◌∷◌, length};
-ghost use Rattle.symbol_table.specs.Laws.{form_of};
+ghost use Rattle.symbol_table.specs.Laws.{form_of, vertex_triples};
 
 use arrayvec::ArrayVec;
 use std::marker::Model;
@@ -100,40 +100,94 @@ const HEXAGON: [Triple; 4] = [
     Triple { a: 1, b: 5, c: 3 },
 ];
 
+/// A row of the table of laws.
+#[derive(Clone, Copy, Debug)]
+struct Form {
+    name: &'static str,
+    places: u8,
+    triples: &'static [Triple],
+}
+
+/// The form of a law over the labels a b c of a vertex.
+fn vertex(name: &'static str) -> Form
+    ensures name { result.name.now ≡ name.now }
+    ensures places { result.places ≡ 3 }
+    ensures triples { result.triples.now ≡ vertex_triples }
+{
+    Form {
+        name,
+        places: 3,
+        triples: &VERTEX,
+    }
+}
+
+/// The form of a law over six labels.
+fn six(name: &'static str, triples: &'static [Triple]) -> Form
+    ensures name { result.name.now ≡ name.now }
+    ensures places { result.places ≡ 6 }
+    ensures triples { result.triples.now ≡ triples.now }
+{
+    Form {
+        name,
+        places: 6,
+        triples,
+    }
+}
+
 impl Law {
-    /// How many labels an index of this law has: 1, 3, 6 or 9.
+    /// The table of laws: the name, the number of labels of an index, and where three of them have to fuse.
+    fn form(self) -> Form
+        ensures name { result.name.now ≡ (form_of self).name }
+        ensures places { result.places ≡ (form_of self).places }
+        ensures few { result.places ≤ 9 }
+        ensures triples { result.triples.now ≡ (form_of self).triples }
+    {
+        match self {
+            Law::UnitF => six("unit-f", &UNIT_F),
+            Law::UnitR => vertex("unit-r"),
+            Law::UnitW => vertex("unit-w"),
+            Law::RealW => vertex("real-w"),
+            Law::InverseW => vertex("inverse-w"),
+            Law::NormR => vertex("norm-r"),
+            Law::DeriveH => six("derive-h", &DERIVE_H),
+            Law::DeriveS => vertex("derive-s"),
+            Law::InverseF => six("inverse-f", &INVERSE_F),
+            Law::InverseH => six("inverse-h", &INVERSE_H),
+            Law::Rigid => Form {
+                name: "rigid",
+                places: 1,
+                triples: &[],
+            },
+            Law::Pentagon => Form {
+                name: "pentagon",
+                places: 9,
+                triples: &PENTAGON,
+            },
+            Law::HexagonOne => six("hexagon-1", &HEXAGON),
+            Law::HexagonTwo => six("hexagon-2", &HEXAGON),
+        }
+    }
+
+    /// The name of this law, as it is written.
+    pub fn name(self) -> &'static str
+        ensures { result.now ≡ (form_of self).name }
+    {
+        self.form().name
+    }
+
+    /// How many labels an index of this law has: nine at most.
     pub fn places(self) -> u8
         ensures places { result ≡ (form_of self).places }
         ensures few { result ≤ 9 }
     {
-        match self {
-            Law::Rigid => 1,
-            Law::UnitR | Law::UnitW | Law::RealW | Law::InverseW | Law::NormR | Law::DeriveS => 3,
-            Law::UnitF
-            | Law::DeriveH
-            | Law::InverseF
-            | Law::InverseH
-            | Law::HexagonOne
-            | Law::HexagonTwo => 6,
-            Law::Pentagon => 9,
-        }
+        self.form().places
     }
 
     /// At which places of an index three labels have to fuse.
     pub fn triples(self) -> &'static [Triple]
         ensures { result.now ≡ (form_of self).triples }
     {
-        match self {
-            Law::Rigid => &[],
-            Law::UnitR | Law::UnitW | Law::RealW | Law::InverseW | Law::NormR | Law::DeriveS =>
-                &VERTEX,
-            Law::UnitF => &UNIT_F,
-            Law::DeriveH => &DERIVE_H,
-            Law::InverseF => &INVERSE_F,
-            Law::InverseH => &INVERSE_H,
-            Law::Pentagon => &PENTAGON,
-            Law::HexagonOne | Law::HexagonTwo => &HEXAGON,
-        }
+        self.form().triples
     }
 }
 

@@ -1,7 +1,9 @@
-//! What the symbols of a category obey at all labels, for the proofs of the crates above.
+//! What the symbols of a category obey at all labels, and that the list of laws has them all, for the proofs of the
+//! crates above.
 
 ghost use Rattle.symbol_table.specs.AllLabels.{HasEquations, HasUnit, IsProper, IsWeighted};
 ghost use Rattle.symbol_table.specs.Category.{symbols};
+ghost use Rattle.symbol_table.specs.Laws.{HasEveryLaw, laws_of};
 
 use crate::category::Category;
 use ring_laws::StarRing;
@@ -19,3 +21,8 @@ pub fn all_labels<R: StarRing>(category: &Category<R>)
     let _members = draft.version();
     let _rules = draft.rules().count();
 }
+
+/// The list of the first version has every law.
+pub fn every_law()
+    ensures { HasEveryLaw (laws_of 1) }
+{}

@@ -1,4 +1,2 @@
 pub mod AnswerLemmas
-pub mod JudgedLemmas
-pub mod PartLemmas
 pub mod Tried

@@ -18,13 +18,12 @@ use Rattle.symbol_table.specs.declared.law.Law.TheVariants.{UnitF, UnitR, UnitW,
 use Rattle.symbol_table.specs.declared.law.Kind.{Kind}
 use Rattle.symbol_table.specs.declared.law.Kind.TheVariants.{Fails, Overflow}
 use Rattle.symbol_table.specs.declared.law.Event.{Event}
-use Rattle.law_events.specs.Sides.{first_in, first_of, weight_laws}
-use Rattle.law_events.specs.Verdicts.{Fits}
+use Rattle.law_events.specs.Sides.{first_in, first_of}
+use Rattle.law_events.specs.Verdicts.{AllFit, AllHold, Fits}
 use Rattle.law_events.proofs.Firsts.{no_verdict, or_none}
-use Rattle.weight_check.specs.Answers.{AllFit, AllHold}
-use Rattle.weight_check.specs.Order.{before_rigid}
-use Rattle.weight_check.proofs.AnswerLemmas.{all_hold}
-use Rattle.weight_check.proofs.JudgedLemmas.{judged_right, rigid_holds}
+use Rattle.weight_check.specs.Order.{weight_laws}
+use Rattle.law_events.proofs.Judged.{judges_right}
+use Rattle.law_events.proofs.Lists.{all_hold}
 
 abbrev weight_event : Ring ℤ → DraftValue ℕ ℤ → Option Event
 weight_event ring draft = first_in (draft_symbols ring whole_held draft) weight_laws
@@ -100,6 +99,4 @@ pub plain_fits : AllFit plain_symbols weight_laws
 plain_fits = all_fit plain_symbols weight_laws no_event
 
 pub plain_holds : AllHold plain_symbols weight_laws
-plain_holds =
-    All-append (λ law. LawHolds plain_symbols law) before_rigid (Rigid ∷ []) (all_hold plain_symbols before_rigid (judged_right whole_ring whole_held whole_laws (given plain)) refl)
-    (All-cons (λ law. LawHolds plain_symbols law) Rigid [] (rigid_holds whole_ring whole_held whole_laws (given plain) refl) (All-nil (λ law. LawHolds plain_symbols law)))
+plain_holds = all_hold plain_symbols (judges_right whole_ring whole_held whole_laws (given plain)) weight_laws no_event

@@ -1,24 +1,19 @@
--- Which laws are checked before H and S are derived, and which with them.
-use Rattle.std.specs.Prelude.{List, [], ◌∷◌}
+-- The laws of single symbols and weights, in the order of the check.
+use Rattle.std.specs.Prelude.{List, [], ◌∷◌, ◌++◌}
 use Rattle.symbol_table.specs.declared.law.Law.{Law}
-use Rattle.symbol_table.specs.declared.law.Law.TheVariants.{UnitF, UnitR, UnitW, RealW, InverseW, NormR, DeriveH, DeriveS, InverseF, InverseH}
-use Rattle.weight_check.specs.declared.laws.SymbolLaw.{SymbolLaw}
-use Rattle.weight_check.specs.declared.laws.SymbolLaw.TheVariants as of_symbols
-use Rattle.weight_check.specs.declared.laws.InverseLaw.{InverseLaw}
-use Rattle.weight_check.specs.declared.laws.InverseLaw.TheVariants as of_inverses
+use Rattle.symbol_table.specs.declared.law.Law.TheVariants.{UnitF, UnitR, UnitW, RealW, InverseW, NormR, DeriveH, DeriveS, InverseF, InverseH, Rigid}
 
-abbrev pub symbol_law : SymbolLaw → Law
-symbol_law of_symbols.UnitF = UnitF
-symbol_law of_symbols.UnitR = UnitR
-symbol_law of_symbols.UnitW = UnitW
-symbol_law of_symbols.RealW = RealW
-symbol_law of_symbols.InverseW = InverseW
-symbol_law of_symbols.NormR = NormR
+-- those that read F, R, w and v alone
+abbrev pub symbol_laws : List Law
+symbol_laws = UnitF ∷ UnitR ∷ UnitW ∷ RealW ∷ InverseW ∷ NormR ∷ []
 
-abbrev pub inverse_law : InverseLaw → Law
-inverse_law of_inverses.F = InverseF
-inverse_law of_inverses.H = InverseH
+-- H and S have values
+abbrev pub derive_laws : List Law
+derive_laws = DeriveH ∷ DeriveS ∷ []
 
--- the weight laws but the last of them
-abbrev pub before_rigid : List Law
-before_rigid = UnitF ∷ UnitR ∷ UnitW ∷ RealW ∷ InverseW ∷ NormR ∷ DeriveH ∷ DeriveS ∷ InverseF ∷ InverseH ∷ []
+-- H is the inverse of F on both sides
+abbrev pub inverse_laws : List Law
+inverse_laws = InverseF ∷ InverseH ∷ []
+
+abbrev pub weight_laws : List Law
+weight_laws = symbol_laws ++ derive_laws ++ inverse_laws ++ Rigid ∷ []

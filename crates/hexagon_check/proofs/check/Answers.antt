@@ -10,23 +10,23 @@ use Rattle.hexagon_check.proofs.check.Goals as goal
 never : false ≡ true → ⊥
 never e = true≢false (sym e)
 
-pub returns-in_err-check_one-clause-complete : goal.returns-in_err-check_one-clause-complete
-returns-in_err-check_one-clause-complete g c = λ hold fit.
+pub returns-in_err-check-clause-complete : goal.returns-in_err-check-clause-complete
+returns-in_err-check-clause-complete g c = λ hold fit.
     let symbols = draft_symbols (g.R.StarRing.ring c.args.draft.now.ring) g.R.StarRing.held c.args.draft.now in
     let first = All-head (LawHolds symbols) HexagonOne (HexagonTwo ∷ []) hold in
     let fits = All-head (Fits symbols) HexagonOne (HexagonTwo ∷ []) fit in
-    absurd (never (c.in_err-check_one.ensures.complete first fits))
+    absurd (never (c.in_err-check.ensures.complete first fits))
 
 pub returns-clause-lawful : goal.returns-clause-lawful
 returns-clause-lawful g c =
     let symbols = draft_symbols (g.R.StarRing.ring c.args.draft.now.ring) g.R.StarRing.held c.args.draft.now in
     let holds = LawHolds symbols in
-    let first = c.in_ok-check_one.ensures.lawful in
-    on_ok c.check_one-2.result (λ second. All-cons holds HexagonOne (HexagonTwo ∷ []) first (All-cons holds HexagonTwo [] second (All-nil holds))) c.check_one-2.ensures.lawful
+    let first = c.in_ok-check.ensures.lawful in
+    on_ok c.check-2.result (λ second. All-cons holds HexagonOne (HexagonTwo ∷ []) first (All-cons holds HexagonTwo [] second (All-nil holds))) c.check-2.ensures.lawful
 
 pub returns-clause-complete : goal.returns-clause-complete
 returns-clause-complete g c = λ hold fit.
     let symbols = draft_symbols (g.R.StarRing.ring c.args.draft.now.ring) g.R.StarRing.held c.args.draft.now in
     let second = All-head (LawHolds symbols) HexagonTwo [] (All-tail (LawHolds symbols) HexagonOne (HexagonTwo ∷ []) hold) in
     let fits = All-head (Fits symbols) HexagonTwo [] (All-tail (Fits symbols) HexagonOne (HexagonTwo ∷ []) fit) in
-    c.check_one-2.ensures.complete second fits
+    c.check-2.ensures.complete second fits

@@ -1,0 +1,8 @@
+-- The laws behind those of single symbols and weights, in the order of the check.
+use Rattle.std.specs.Prelude.{List, ◌∷◌}
+use Rattle.symbol_table.specs.declared.law.Law.{Law}
+use Rattle.symbol_table.specs.declared.law.Law.TheVariants.{Pentagon}
+use Rattle.hexagon_check.specs.Exchange.{hexagon_laws}
+
+abbrev pub shape_laws : List Law
+shape_laws = Pentagon ∷ hexagon_laws
