@@ -27,7 +27,7 @@ use Rattle.category_text.proofs.PairLemmas.{of_kind, f_symbols, vertex_symbols, 
 use Rattle.category_text.proofs.IndexLemmas.{admitted}
 use Rattle.category_text.proofs.FreshLemmas.{Each, IsReady, fresh_symbols, unset_fused}
 use Rattle.category_text.proofs.SameLemmas.{each_filter, each_map, each_append}
-use Rattle.category_text.proofs.SpellLemmas.{IsWord}
+use Rattle.line_text.proofs.PlainWordLemmas.{IsWord}
 use Rattle.category_text.proofs.NumberLemmas.{number_again, number_is_word}
 use Rattle.category_text.proofs.PlainLemmas.{plain_lines}
 use Rattle.category_text.proofs.SaidLemmas.{left_of, few, labels_named, symbol_named}

@@ -1,59 +1,26 @@
 -- Lines that are written are read again.
-use Rattle.std.proofs.Common.{◌≡◌, ℕ, zero, suc, ◌+◌, ◌<◌, ◌≤◌, List, [], ◌∷◌, ◌++◌, Bool, length, map, get_or, refl, ap, ◌∙◌, arith, true, false, ◌||◌, ◌==◌, ltb, Some, None, Ok, codes, sym, subst}
+use Rattle.std.proofs.Common.{◌≡◌, ℕ, ◌+◌, ◌<◌, ◌≤◌, List, [], ◌∷◌, ◌++◌, Bool, length, map, refl, ap, ◌∙◌, arith, true, false, ◌==◌, ltb, None, Ok, codes, sym, subst}
 use Rattle.std.specs.Fmt.{decimal}
-use Rattle.std.specs.List.{position_or_len}
-use Rattle.std.specs.Str.{bytes_eq}
 use Rattle.std.proofs.lemmas.Bool.Decides.{nat_tests}
-use Rattle.std.proofs.lemmas.Slice.Eq.{bytes_eq-Decides}
 use Rattle.line_text.specs.Text.{Found, Counted, words_of, lines_of, found_in}
 use Rattle.line_text.specs.Spelling.{spaced, spelled, counted, all_plain, ArePlainLines}
 use Rattle.line_text.proofs.PlainLemmas.{number_again}
 use Rattle.line_text.proofs.SpellingLemmas.{words_again, found_again}
-use Rattle.fusion_rules.specs.Names.{is_among, has_repeat, AreNames, label_of}
-use Rattle.fusion_rules.proofs.NameLemmas.{eq_comm}
+use Rattle.fusion_rules.specs.declared.label.TheConstants.{LABEL_LIMIT}
+use Rattle.fusion_rules.specs.Names.{AreNames}
+use Rattle.fusion_rules.proofs.FoundLemmas.{label_again}
 use Rattle.poly_core.specs.Rho.{is_accepted}
+use Rattle.poly_core.proofs.RhoLemmas.{accepted_small}
 use Rattle.cyclo_core.specs.Ratio.{Ratio}
 use Rattle.cyclo_text.specs.NumberWords.{number_of, spelled_number}
 use Rattle.symbol_table.specs.declared.index.VIndex.{VIndex}
 use Rattle.category_text.specs.declared.kind.Symbol.{Symbol}
 use Rattle.category_text.specs.declared.kind.Symbol.TheVariants.{OfF, OfR, OfW, OfV}
 use Rattle.category_text.specs.Named.{NamedSymbols, symbol_fault}
-use Rattle.category_text.specs.Reading.{SoFar, line_of, fuse_of, symbol_of, body_of, head_of, header_of, root_of, labels_of, begun, category_of}
+use Rattle.category_text.specs.Reading.{SoFar, line_of, fuse_of, symbol_of, body_of, front_of, head_of, header_of, root_of, labels_of, begun, category_of}
 use Rattle.category_text.specs.Answers.{SymbolBelow}
-use Rattle.category_text.specs.Canonical.{name_of, fuse_line}
+use Rattle.category_text.specs.Canonical.{fuse_line}
 use Rattle.category_text.specs.Spelled.{symbol_words, fused_with, set_with, fused_all, set_all, FreshTriples, FreshSymbols, words_at, lines_over, SpelledAgain}
-use Rattle.category_text.proofs.RootLemmas.{large_root}
-
-same_text : (m : List ℕ) → bytes_eq m m ≡ true
-same_text m = (bytes_eq-Decides m m).1 refl
-
-other_name : (names : List (List ℕ)) (n : List ℕ) (k : ℕ) → is_among names n ≡ false → k < length names → bytes_eq n (get_or names k []) ≡ false
-other_name [] n k none within = absurd (omega arith)
-other_name (m ∷ ms) n zero none within = by_test (bytes_eq n m) none
-  where
-    by_test : (b : Bool) → (b || is_among ms n) ≡ false → b ≡ false
-    by_test true none = cc
-    by_test false none = refl
-other_name (m ∷ ms) n (suc k) none within = by_test (bytes_eq n m) none (λ h. other_name ms n k h (omega arith))
-  where
-    by_test : (b : Bool) → (b || is_among ms n) ≡ false → (is_among ms n ≡ false → bytes_eq n (get_or ms k []) ≡ false) → bytes_eq n (get_or ms k []) ≡ false
-    by_test true none later = absurd (cc)
-    by_test false none later = later none
-
-place_again : (names : List (List ℕ)) (a : ℕ) → has_repeat names ≡ false → a < length names → position_or_len (bytes_eq (name_of names a)) names ≡ a
-place_again [] a none within = absurd (omega arith)
-place_again (n ∷ ns) zero none within = rw (same_text n) refl
-place_again (n ∷ ns) (suc k) none within = by_test (is_among ns n) refl none (λ h. place_again ns k h (omega arith))
-  where
-    by_test : (b : Bool) → is_among ns n ≡ b → (b || has_repeat ns) ≡ false → (has_repeat ns ≡ false → position_or_len (bytes_eq (name_of ns k)) ns ≡ k) → position_or_len (bytes_eq (name_of ns k)) (n ∷ ns) ≡ suc k
-    by_test true e none later = absurd (cc)
-    by_test false e none later = let other : bytes_eq (name_of ns k) n ≡ false = eq_comm (name_of ns k) n ∙ other_name ns n k e (omega arith) in rw (other, later none) (omega arith)
-
-pub label_again : (names : List (List ℕ)) (a : ℕ) → AreNames names → a < length names → label_of names (name_of names a) ≡ Some a
-label_again names a are within =
-    let place = place_again names a are.distinct within in
-    let in' : ltb (position_or_len (bytes_eq (name_of names a)) names) (length names) ≡ true = grind (arith, nat_tests) in
-    rw in' (ap Some place)
 
 fuse_again : (said : NamedSymbols) (t : VIndex) → AreNames said.names → t.a < length said.names → t.b < length said.names → t.c < length said.names → (t.a == 0) ≡ false → (t.b == 0) ≡ false → said.given.fuse t.a t.b t.c ≡ false
     → line_of (record { said = said; has_symbols = false }) (fuse_line said t) ≡ Ok (record { said = fused_with said t; has_symbols = false })
@@ -100,25 +67,18 @@ symbols_again said started (s ∷ ss) are fresh plain n =
     (symbol_again said started s.0 s.1 are below free read) (symbols_again (set_with said s.0 s.1) true ss are more plain.1 (n + 1))
 
 -- The head.
-accepted_small : (root : ℕ) → is_accepted root ≡ true → root ≤ 60
-accepted_small root accepted = go (ltb 60 root) refl
-  where
-    go : (b : Bool) → ltb 60 root ≡ b → root ≤ 60
-    go true e = absurd (let h : is_accepted root ≡ false = large_root root (grind (arith, nat_tests)) in cc)
-    go false e = grind (arith, nat_tests)
-
 root_again : (root : ℕ) → is_accepted root ≡ true → root ≤ 60 → root_of (codes "root" ∷ decimal root ∷ []) ≡ Ok root
 root_again root accepted small = rw (number_again root (omega arith), accepted) refl
 
 labels_again : (names : List (List ℕ)) → AreNames names → 0 < length names → labels_of (codes "labels" ∷ names) ≡ Ok names
 labels_again [] are some = absurd (omega arith)
 labels_again (n ∷ ns) are some =
-    let few : ltb 12 (length (n ∷ ns)) ≡ false = (let f = are.few in grind (arith, nat_tests)) in
+    let few : ltb LABEL_LIMIT (length (n ∷ ns)) ≡ false = (let f = are.few in grind (arith, nat_tests)) in
     rw (are.spelled, few, are.distinct) refl
 
 head_by : (a b c : ℕ) (header root_text labels : List ℕ) (rest : List Found) (count root : ℕ) (names : List (List ℕ)) → header_of (words_of header) ≡ Ok tt → root_of (words_of root_text) ≡ Ok root → labels_of (words_of labels) ≡ Ok names
     → head_of (record { ahead = Counted a header ∷ Counted b root_text ∷ Counted c labels ∷ rest; count = count }) ≡ Ok ((root, names), rest)
-unfolding head_of
+unfolding head_of front_of
 head_by a b c header root_text labels rest count root names e f g = rw (e, f, g) refl
 
 head_again : (root : ℕ) (names : List (List ℕ)) (rest : List Found) (a b c count : ℕ) → AreNames names → 0 < length names → is_accepted root ≡ true → root ≤ 60 → all_plain (codes "root" ∷ decimal root ∷ []) ≡ true → all_plain (codes "labels" ∷ names) ≡ true

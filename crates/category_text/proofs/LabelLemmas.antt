@@ -5,6 +5,7 @@ use Rattle.std.proofs.lemmas.Bool.Decides.{nat_tests}
 use Rattle.std.proofs.lemmas.List.{append-nil, length-append, drop_more, drop_all}
 use Rattle.std.proofs.lemmas.Option.{slice_get_within, get_or_from_slice_get}
 use Rattle.std.specs.Prelude.{slice_get}
+use Rattle.fusion_rules.specs.declared.label.TheConstants.{LABEL_LIMIT}
 use Rattle.fusion_rules.specs.Names.{is_name, all_names, has_repeat, is_among, name_fault}
 use Rattle.fusion_rules.specs.declared.names.NameFault.{NameFault}
 use Rattle.fusion_rules.specs.declared.names.NameFault.TheVariants as name
@@ -18,7 +19,7 @@ use Rattle.category_text.specs.declared.fault.CategoryCause.TheVariants.{Labels}
 
 -- what `add` says of a name
 module _ (names : List (List ℕ)) (word : List ℕ) where
-  by_tests : (named full among : Bool) (P : Option NameFault → Type 0) → is_name word ≡ named → (length names == 12) ≡ full → is_among names word ≡ among
+  by_tests : (named full among : Bool) (P : Option NameFault → Type 0) → is_name word ≡ named → (length names == LABEL_LIMIT) ≡ full → is_among names word ≡ among
       → P (if not named then Some name.Spelling else (if full then Some name.Full else (if among then Some name.Repeated else None))) → P (name_fault names word)
   by_tests named full among P e f g h = rw (e, f, g) h
 
@@ -30,9 +31,9 @@ module _ (names : List (List ℕ)) (word : List ℕ) where
   Keeps (Some name.Memory) = Unit {0}
 
   keeps : Keeps (name_fault names word)
-  keeps = go (is_name word) (length names == 12) (is_among names word) refl refl refl
+  keeps = go (is_name word) (length names == LABEL_LIMIT) (is_among names word) refl refl refl
     where
-      go : (named full among : Bool) → is_name word ≡ named → (length names == 12) ≡ full → is_among names word ≡ among → Keeps (name_fault names word)
+      go : (named full among : Bool) → is_name word ≡ named → (length names == LABEL_LIMIT) ≡ full → is_among names word ≡ among → Keeps (name_fault names word)
       go false full among e f g = by_tests false full among Keeps e f g (rw e refl)
       go true true among e f g = by_tests true true among Keeps e f g (rw (e, f) refl)
       go true false true e f g = by_tests true false true Keeps e f g (rw (e, f, g) refl)
@@ -52,7 +53,7 @@ module _ (names : List (List ℕ)) (word : List ℕ) where
 
 -- no more names than words
 add_more : (names : List (List ℕ)) (word : List ℕ) → length (add_to names word) ≤ length names + 1
-add_more names word = by_tests (length names == 12) (is_among names word)
+add_more names word = by_tests (length names == LABEL_LIMIT) (is_among names word)
   where
     by_tests : (full among : Bool) → length (if full then names else (if among then names else names ++ word ∷ [])) ≤ length names + 1
     by_tests true among = omega arith
@@ -66,7 +67,7 @@ kept_more names (w ∷ ws) = omega (arith, kept_more (add_to names w) ws, add_mo
 -- a repeat is a name less
 kept_less : (names words : List (List ℕ)) → has_repeat names ≡ false → has_repeat (names ++ words) ≡ true → length (kept names words) < length names + length words
 kept_less names [] none is = absurd (let e : has_repeat names ≡ true = ap has_repeat (sym (append-nil names)) ∙ is in cc)
-kept_less names (w ∷ ws) none is = by_tests (length names == 12) (is_among names w) refl (kept_more names ws) (kept_less (names ++ w ∷ []) ws)
+kept_less names (w ∷ ws) none is = by_tests (length names == LABEL_LIMIT) (is_among names w) refl (kept_more names ws) (kept_less (names ++ w ∷ []) ws)
   where
     by_tests : (full among : Bool) → is_among names w ≡ among → length (kept names ws) ≤ length names + length ws
         → (has_repeat (names ++ w ∷ []) ≡ false → has_repeat ((names ++ w ∷ []) ++ ws) ≡ true → length (kept (names ++ w ∷ []) ws) < length (names ++ w ∷ []) + length ws)
@@ -98,27 +99,27 @@ not_earlier (n ∷ ns) w ws none = by_test (is_among (ns ++ w ∷ ws) n) refl (n
     by_test false e rest none = rw (eq_comm w n, among_later ns w ws n e) (rest none)
 
 -- without a repeat every name is kept
-kept_all : (names words : List (List ℕ)) → has_repeat (names ++ words) ≡ false → length names + length words ≤ 12 → kept names words ≡ names ++ words
+kept_all : (names words : List (List ℕ)) → has_repeat (names ++ words) ≡ false → length names + length words ≤ LABEL_LIMIT → kept names words ≡ names ++ words
 kept_all names [] none few = sym (append-nil names)
 kept_all names (w ∷ ws) none few =
-    let full : (length names == 12) ≡ false = grind (arith, nat_tests) in
+    let full : (length names == LABEL_LIMIT) ≡ false = grind (arith, nat_tests) in
     let new = not_earlier names w ws none in
     rw (full, new) (kept_all (names ++ w ∷ []) ws (ap has_repeat (append_assoc names (w ∷ []) ws) ∙ none) (omega (arith, length-append names (w ∷ []))) ∙ append_assoc names (w ∷ []) ws)
 
 pub judged : (words : List (List ℕ)) → all_names words ≡ true → judged_of (kept [] words) (length words) ≡ names_in words
 judged [] all = refl
-judged (w ∷ ws) all = by_tests (ltb 12 (length (w ∷ ws))) (has_repeat (w ∷ ws)) refl refl
+judged (w ∷ ws) all = by_tests (ltb LABEL_LIMIT (length (w ∷ ws))) (has_repeat (w ∷ ws)) refl refl
   where
     some : (length (w ∷ ws) == 0) ≡ false
     some = grind (arith, nat_tests)
 
-    by_tests : (many repeats : Bool) → ltb 12 (length (w ∷ ws)) ≡ many → has_repeat (w ∷ ws) ≡ repeats → judged_of (kept [] (w ∷ ws)) (length (w ∷ ws)) ≡ names_in (w ∷ ws)
+    by_tests : (many repeats : Bool) → ltb LABEL_LIMIT (length (w ∷ ws)) ≡ many → has_repeat (w ∷ ws) ≡ repeats → judged_of (kept [] (w ∷ ws)) (length (w ∷ ws)) ≡ names_in (w ∷ ws)
     by_tests true repeats e f = rw (some, e, all) refl
     by_tests false true e f =
         let less : ltb (length (kept [] (w ∷ ws))) (length (w ∷ ws)) ≡ true = (let l = kept_less [] (w ∷ ws) refl f in grind (arith, nat_tests)) in
         rw (some, e, f, all, less) refl
     by_tests false false e f =
-        let few : length (w ∷ ws) ≤ 12 = grind (arith, nat_tests) in
+        let few : length (w ∷ ws) ≤ LABEL_LIMIT = grind (arith, nat_tests) in
         let same = kept_all [] (w ∷ ws) f (omega arith) in
         let not_less : ltb (length (kept [] (w ∷ ws))) (length (w ∷ ws)) ≡ false = (let l = ap length same in grind (arith, nat_tests)) in
         rw (some, e, f, all, not_less) (ap Ok same)

@@ -2,6 +2,7 @@ pub mod LabelLemmas
 pub mod RootLemmas
 pub mod SymbolLemmas
 pub mod Tried
+pub mod BodyLemmas
 pub mod WholeLemmas
 pub mod WritingLemmas
 pub mod TriedText
@@ -19,6 +20,7 @@ pub mod PlainLemmas
 pub mod SaidLemmas
 pub mod StayLemmas
 pub mod LineLemmas
+pub mod KeepLemmas
 pub mod ValueLemmas
 pub mod AgainLemmas
 pub mod DraftLemmas

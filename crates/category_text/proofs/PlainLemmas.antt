@@ -1,23 +1,24 @@
 -- The lines of names, triples and numbers are plain.
-use Rattle.std.proofs.Common.{◌≡◌, ℕ, zero, suc, ◌+◌, ◌*◌, ◌<◌, ◌≤◌, List, [], ◌∷◌, ◌++◌, true, length, map, refl, arith, codes}
+use Rattle.std.proofs.Common.{◌≡◌, ℕ, ◌*◌, ◌<◌, ◌≤◌, List, [], ◌∷◌, true, length, map, refl, arith, codes}
 use Rattle.std.specs.Fmt.{decimal}
 use Rattle.std.proofs.lemmas.Bool.Decides.{nat_tests}
 use Rattle.std.proofs.lemmas.List.{length-append}
 use Rattle.cyclo_core.specs.Ratio.{Ratio}
 use Rattle.cyclo_text.specs.NumberWords.{spelled_number}
-use Rattle.fusion_rules.specs.Names.{is_name, all_names, all_name_bytes, AreNames}
+use Rattle.fusion_rules.specs.Names.{is_name, all_names, all_name_bytes, AreNames, name_of}
+use Rattle.fusion_rules.proofs.FoundLemmas as found
 use Rattle.fusion_rules.proofs.NameLemmas.{spelled}
-use Rattle.line_text.specs.Spelling.{spaced, plain_bytes, all_plain, IsPlainLine, ArePlainLines}
+use Rattle.line_text.proofs.PlainWordLemmas.{IsWord, IsLine, some_word, decimal_word, one_word, word_before, plain_append}
+use Rattle.line_text.specs.Spelling.{spaced, plain_bytes, IsPlainLine, ArePlainLines}
 use Rattle.symbol_table.specs.Index.{AreThreeLabels}
 use Rattle.symbol_table.specs.declared.index.VIndex.{VIndex}
 use Rattle.category_text.specs.declared.kind.Symbol.{Symbol}
 use Rattle.category_text.specs.declared.kind.Symbol.TheVariants.{OfF, OfR, OfW, OfV}
 use Rattle.category_text.specs.Answers.{SymbolBelow}
 use Rattle.category_text.specs.Named.{NamedSymbols}
-use Rattle.category_text.specs.Canonical.{name_of, fuse_line}
+use Rattle.category_text.specs.Canonical.{fuse_line}
 use Rattle.category_text.specs.Spelled.{symbol_words, words_at, lines_over, head_alone}
 use Rattle.category_text.proofs.FreshLemmas.{Each}
-use Rattle.category_text.proofs.SpellLemmas.{IsWord, some_word, decimal_word}
 
 name_bytes : (cs : List ℕ) → all_name_bytes cs ≡ true → plain_bytes cs ≡ true
 name_bytes [] e = refl
@@ -27,23 +28,7 @@ name_word : (word : List ℕ) → is_name word ≡ true → IsWord word 8
 name_word word e = let s = spelled word e in record { plain = some_word word (name_bytes word s.0) s.2; short = s.1 }
 
 name_at : (names : List (List ℕ)) (a : ℕ) → all_names names ≡ true → a < length names → IsWord (name_of names a) 8
-name_at [] a all within = absurd (omega arith)
-name_at (n ∷ ns) zero all within = name_word n (grind arith)
-name_at (n ∷ ns) (suc k) all within = name_at ns k (grind arith) (omega arith)
-
--- Words of a line, one behind the other.
-pub record IsLine (words : List (List ℕ)) (longest : ℕ) : Type 0 where
-  pub plain : all_plain words ≡ true
-  pub short : length (spaced words) ≤ longest
-
-one_word : (word : List ℕ) (longest : ℕ) → IsWord word longest → IsLine (word ∷ []) longest
-one_word word longest w = record { plain = rw w.plain refl; short = w.short }
-
-word_before : (word next : List ℕ) (words : List (List ℕ)) (m n : ℕ) → IsWord word m → IsLine (next ∷ words) n → IsLine (word ∷ next ∷ words) (m + 1 + n)
-word_before word next words m n w l = record {
-  plain = rw w.plain l.plain;
-  short = omega (arith, w.short, l.short, length-append word (32 ∷ spaced (next ∷ words)));
-}
+name_at names a all within = name_word (name_of names a) (found.name_at names a all within)
 
 names_line : (name : List ℕ) (names : List (List ℕ)) → all_names (name ∷ names) ≡ true → IsLine (name ∷ names) (9 * length (name ∷ names))
 names_line n [] all = let w = name_word n (grind arith) in record { plain = rw w.plain refl; short = omega (arith, w.short) }
@@ -93,13 +78,9 @@ module _ (names : List (List ℕ)) (all : all_names names ≡ true) where
   symbols_plain [] each = tt
   symbols_plain (s ∷ ss) each = (symbol_plain s.0 s.1 each.0.0 each.0.1, symbols_plain ss each.1)
 
-plain_append : (ls ms : List (List (List ℕ))) → ArePlainLines ls → ArePlainLines ms → ArePlainLines (ls ++ ms)
-plain_append [] ms p q = q
-plain_append (l ∷ ls) ms p q = (p.0, plain_append ls ms p.1 q)
-
 root_plain : (root : ℕ) → 0 < root → root ≤ 60 → IsPlainLine (codes "root" ∷ decimal root ∷ [])
 root_plain root some small =
-    let whole = word_before (codes "root") (decimal root) [] 4 39 (record { plain = refl; short = omega arith }) (one_word (decimal root) 39 (decimal_word root some (omega arith))) in
+    let whole = word_before (codes "root") (decimal root) [] 4 39 (record { plain = refl; short = omega arith }) (one_word (decimal root) 39 (decimal_word root 39 (omega arith) (omega arith) (omega arith))) in
     record { plain = whole.plain; counts = refl; short = omega (arith, whole.short) }
 
 labels_plain : (names : List (List ℕ)) → AreNames names → 0 < length names → IsPlainLine (codes "labels" ∷ names)

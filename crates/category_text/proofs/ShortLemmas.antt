@@ -6,6 +6,7 @@ use Rattle.std.proofs.lemmas.List.Concat.{length-flat_map}
 use Rattle.std.proofs.lemmas.List.Elements.{All-nil, All-cons}
 use Rattle.std.proofs.lemmas.List.Sums.{sum_by-le}
 use Rattle.line_text.specs.Spelling.{spaced, spelled, ArePlainLines}
+use Rattle.fusion_rules.specs.declared.label.TheConstants.{LABEL_LIMIT}
 use Rattle.symbol_table.specs.Index.{v_index}
 use Rattle.symbol_table.specs.declared.index.VIndex.{VIndex}
 use Rattle.category_text.specs.declared.kind.VertexKind.{VertexKind}
@@ -34,8 +35,8 @@ counting_length : (from k : ℕ) → length (counting from k) ≡ k
 counting_length from zero = refl
 counting_length from (suc k) = ap suc (counting_length (from + 1) k)
 
--- Twelve labels at most.
-module _ (n : ℕ) (few : n ≤ 12) where
+-- At most twelve labels.
+module _ (n : ℕ) (few : n ≤ LABEL_LIMIT) where
   row_short : (a b : ℕ) → length (v_row n a b) ≤ 12
   row_short a b = omega (arith, length-map (counting 0 n) (λ (c : ℕ). v_index a b c), counting_length 0 n)
 
@@ -58,7 +59,7 @@ spelled_short (l ∷ ls) plain =
     let rest = spelled_short ls plain.1 in
     omega (arith, first, rest, length-append (spaced l) (10 ∷ spelled ls))
 
-module _ (x : NamedSymbols) (few : x.given.count ≤ 12) where
+module _ (x : NamedSymbols) (few : x.given.count ≤ LABEL_LIMIT) where
   fuses_short : length (fuse_lines x) ≤ 1728
   fuses_short = omega (arith, length-map (filter (has_fuse_line x) (vertices x.given.count)) (fuse_line x), filter_short (has_fuse_line x) (vertices x.given.count), vertices_short x.given.count few)
 

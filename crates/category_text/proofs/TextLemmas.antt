@@ -8,13 +8,15 @@ use Rattle.cyclo_text.specs.NumberWords.{spelled_number}
 use Rattle.symbol_table.specs.Symbols.{f_admissible}
 use Rattle.symbol_table.specs.declared.index.FIndex.{FIndex}
 use Rattle.symbol_table.specs.declared.index.VIndex.{VIndex}
+use Rattle.fusion_rules.specs.Names.{name_of}
 use Rattle.category_text.specs.declared.kind.VertexKind.{VertexKind}
 use Rattle.category_text.specs.declared.kind.VertexKind.TheVariants.{OnR, OnW, OnV}
 use Rattle.category_text.specs.Named.{NamedSymbols}
 use Rattle.category_text.specs.Reading.{Fault, category_of}
-use Rattle.category_text.specs.Canonical.{vertices, sixes, name_of, is_one, kind_word, f_words, f_value, vertex_value, canonical}
-use Rattle.category_text.specs.Again.{SameSymbols, AllReadAgain, AllSettled, AllShort, OneText, SameText}
+use Rattle.category_text.specs.Canonical.{vertices, sixes, is_one, kind_word, f_words, f_value, vertex_value, canonical}
+use Rattle.category_text.specs.Again.{SameSymbols, AllReadAgain, AllSettled, AllShort, OneText, SameText, TextsApart, TextsReadAgain, TextsSettled, TextsShort}
 use Rattle.category_text.proofs.AgainLemmas.{read_again, short_text}
+use Rattle.category_text.proofs.KeepLemmas.{all_said}
 
 pub all_read_again : AllReadAgain
 all_read_again x said = read_again x said
@@ -79,3 +81,16 @@ settled_by x (Err fault) same = same
 
 pub all_settled : AllSettled
 all_settled x said = settled_by x (category_of (canonical x)) (read_again x said)
+
+-- The same of every text that is read.
+pub texts_again : TextsReadAgain
+texts_again bytes x reads = read_again x (all_said bytes x reads)
+
+pub texts_short : TextsShort
+texts_short bytes x reads = short_text x (all_said bytes x reads)
+
+pub texts_apart : TextsApart
+texts_apart a b x y read_a read_b same = one_text x y (all_said a x read_a) (all_said b y read_b) same
+
+pub texts_settled : TextsSettled
+texts_settled bytes x reads = all_settled x (all_said bytes x reads)

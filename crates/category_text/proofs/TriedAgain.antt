@@ -1,6 +1,6 @@
 -- What can be said, tried: the unit alone, and the Fibonacci category.
-use Rattle.std.proofs.Common.{◌≡◌, ℕ, zero, suc, ◌<◌, ◌≤◌, List, [], ◌∷◌, Bool, true, false, ◌||◌, ◌==◌, length, refl, sym, ap, ◌∙◌, codes, arith, if◌then◌else◌, Option, Some, None}
-use Rattle.std.specs.Prelude.{ℤ, pos, negsuc, IsTrue, IfSome, unwrap_or}
+use Rattle.std.proofs.Common.{◌≡◌, ℕ, zero, suc, ◌≤◌, List, [], ◌∷◌, ◌||◌, ◌==◌, refl, sym, ap, ◌∙◌, codes, arith}
+use Rattle.std.specs.Prelude.{ℤ, pos, negsuc, IsTrue}
 use Rattle.std.proofs.lemmas.Bool.Decides.{nat_tests}
 use Rattle.poly_core.specs.Combination.{nought}
 use Rattle.poly_core.specs.Gcd.{totient, gcd}
@@ -10,77 +10,33 @@ use Rattle.poly_core.proofs.RhoLemmas.{totient_is}
 use Rattle.cyclo_core.specs.CycloLaws.{same_ratio_is, tabulate-nought}
 use Rattle.cyclo_core.proofs.NumberLemmas.{reduced_over_one, filled_is, coefficient_is, coefficient_past}
 use Rattle.cyclo_core.specs.Ratio.{Ratio, ring_at, tabulate, reduced, coefficient, under, is_held}
-use Rattle.cyclo_core.specs.RingAt.{ring_at_laws}
 use Rattle.fusion_rules.specs.Fusion.{unit_fuses}
-use Rattle.fusion_rules.specs.Names.{AreNames}
-use Rattle.symbol_table.specs.Symbols.{Given}
 use Rattle.symbol_table.specs.Index.{AreThreeLabels, f_index, v_index}
-use Rattle.symbol_table.specs.declared.index.VIndex.{VIndex}
 use Rattle.category_text.specs.declared.kind.Symbol.{Symbol}
 use Rattle.category_text.specs.declared.kind.Symbol.TheVariants.{OfF, OfR, OfW, OfV}
-use Rattle.category_text.specs.declared.kind.VertexKind.{VertexKind}
-use Rattle.category_text.specs.declared.kind.VertexKind.TheVariants.{OnR, OnW, OnV}
-use Rattle.category_text.specs.Named.{NamedSymbols, with_symbol, only_units}
-use Rattle.category_text.specs.Canonical.{vertex_value}
+use Rattle.category_text.specs.Named.{NamedSymbols}
 use Rattle.category_text.specs.Spelled.{fused_all, set_with, set_all, head_alone}
 use Rattle.category_text.specs.Again.{IsNumberOf, IsSaid}
 use Rattle.category_text.proofs.FreshLemmas.{Each}
-use Rattle.category_text.proofs.IndexLemmas.{set_of, same_symbol, set_of_with}
-
--- each value that was set is a number of the ring
-abbrev pub AreSetNumbers : ℕ → Given Ratio → Type 0
-AreSetNumbers root g = (s : Symbol) → IfSome (set_of g s) (IsNumberOf root)
-
-numbers_with : (root : ℕ) (g : Given Ratio) (s : Symbol) (v : Ratio) → AreSetNumbers root g → IsNumberOf root v → AreSetNumbers root (with_symbol g s v)
-numbers_with root g s v all is t = rw (set_of_with g s t v) (go (same_symbol s t))
-  where
-    go : (b : Bool) → IfSome (if b then Some v else set_of g t) (IsNumberOf root)
-    go true = is
-    go false = all t
+use Rattle.category_text.proofs.KeepLemmas.{AreSetNumbers, numbers_with, numbers_alone, grown_said}
 
 numbers_all : (said : NamedSymbols) (ss : List (Symbol × Ratio)) → AreSetNumbers said.root said.given → Each (λ (s : Symbol × Ratio). IsNumberOf said.root s.1) ss → AreSetNumbers said.root (set_all said ss).given
 numbers_all said [] all each = all
 numbers_all said (s ∷ ss) all each = numbers_all (set_with said s.0 s.1) ss (numbers_with said.root said.given s.0 s.1 all each.0) each.1
 
-numbers_alone : (root n : ℕ) → AreSetNumbers root (only_units n)
-numbers_alone root n (OfF at) = tt
-numbers_alone root n (OfR at) = tt
-numbers_alone root n (OfW at) = tt
-numbers_alone root n (OfV at) = tt
-
-one_number : (root : ℕ) → IsNumberOf root (ring_at root).one
-unfolding is_held
-one_number root = ((ring_at_laws root).one_is, refl)
-
-value_number : (root : ℕ) (o : Option Ratio) → IfSome o (IsNumberOf root) → IsNumberOf root (unwrap_or o (ring_at root).one)
-value_number root None none = one_number root
-value_number root (Some v) is = is
-
-said_by : (x : NamedSymbols) → AreNames x.names → 0 < length x.names → x.given.count ≡ length x.names → is_accepted x.root ≡ true
-    → ((a b c : ℕ) → IsTrue (a == 0 || b == 0) → x.given.fuse a b c ≡ unit_fuses x.given.count a b c) → ((a b c : ℕ) → IsTrue (x.given.fuse a b c) → AreThreeLabels x.given.count a b c)
-    → AreSetNumbers x.root x.given → IsSaid x
-said_by x names some counted accepted units labels numbers = record {
-  names = names;
-  some = some;
-  counted = counted;
-  accepted = accepted;
-  units = units;
-  labels = labels;
-  f = λ at allowed. rw allowed (value_number x.root (x.given.set_f at.a at.b at.c at.d at.e at.f) (numbers (OfF at)));
-  vertex = λ kind at allowed. by_kind kind at allowed;
-}
-  where
-    by_kind : (kind : VertexKind) (at : VIndex) → IsTrue (x.given.fuse at.a at.b at.c) → IsNumberOf x.root (vertex_value x kind at)
-    by_kind OnR at allowed = rw allowed (value_number x.root (x.given.set_r at.a at.b at.c) (numbers (OfR at)))
-    by_kind OnW at allowed = rw allowed (value_number x.root (x.given.set_w at.a at.b at.c) (numbers (OfW at)))
-    by_kind OnV at allowed = rw allowed (value_number x.root (x.given.set_v at.a at.b at.c) (numbers (OfV at)))
-
 -- the unit alone
 unit_alone : IsSaid (head_alone 1 (codes "1" ∷ []))
 unfolding is_accepted totient gcd
 unit_alone =
-    said_by (head_alone 1 (codes "1" ∷ [])) (record { few = omega arith; spelled = refl; distinct = refl }) (omega arith) refl refl
-    (λ a b c unit. refl) (λ a b c e. labels a b c e) (numbers_alone 1 1)
+    grown_said (head_alone 1 (codes "1" ∷ [])) (record {
+      names = record { few = omega arith; spelled = refl; distinct = refl };
+      some = omega arith;
+      counted = refl;
+      accepted = refl;
+      units = λ a b c unit. refl;
+      labels = λ a b c e. labels a b c e;
+      numbers = numbers_alone 1 1;
+    })
   where
     labels : (a b c : ℕ) → IsTrue (unit_fuses 1 a b c) → AreThreeLabels 1 a b c
     labels a b c e = (grind (arith, nat_tests), grind (arith, nat_tests), grind (arith, nat_tests))
@@ -147,8 +103,15 @@ numbers_none (OfV at) = tt
 fibonacci : IsSaid (set_all fibonacci_rules fibonacci_values)
 unfolding fibonacci_rules fibonacci_values is_accepted totient gcd
 fibonacci =
-    said_by (set_all fibonacci_rules fibonacci_values) (record { few = omega arith; spelled = refl; distinct = refl }) (omega arith) refl refl units labels
-    (numbers_all fibonacci_rules fibonacci_values numbers_none each_number)
+    grown_said (set_all fibonacci_rules fibonacci_values) (record {
+      names = record { few = omega arith; spelled = refl; distinct = refl };
+      some = omega arith;
+      counted = refl;
+      accepted = refl;
+      units = units;
+      labels = labels;
+      numbers = numbers_all fibonacci_rules fibonacci_values numbers_none each_number;
+    })
   where
     units : (a b c : ℕ) → IsTrue (a == 0 || b == 0) → fibonacci_rules.given.fuse a b c ≡ unit_fuses 2 a b c
     units a b c unit = grind (arith, nat_tests)

@@ -1,19 +1,23 @@
 -- The text of all labels is written label by label.
-use Rattle.std.proofs.Common.{◌≡◌, ◌↔◌, ℕ, suc, ◌+◌, ◌-◌, ◌<◌, List, [], ◌∷◌, ◌++◌, Bool, true, false, length, map, filter, drop, refl, ap, sym, ◌∙◌, arith, append_assoc, IsTrue, if◌then◌else◌, inl, inr, subst, Result, Ok, Err, OnOk}
+use Rattle.std.proofs.Common.{◌≡◌, ◌↔◌, ℕ, suc, ◌+◌, ◌-◌, ◌<◌, List, [], ◌∷◌, ◌++◌, Bool, true, false, length, map, filter, drop, refl, ap, sym, ◌∙◌, arith, append_assoc, IsTrue, if◌then◌else◌, inl, inr, subst, Result, Ok, Err, OnOk, codes}
+use Rattle.std.specs.Fmt.{decimal}
 use Rattle.std.specs.List.{flat_map}
 use Rattle.std.proofs.lemmas.List.{append-nil, drop_more}
 use Rattle.std.proofs.lemmas.Bool.{cases_lt}
 use Rattle.line_text.specs.Spelling.{spelled, spaced}
+use Rattle.line_text.specs.Writing.{spaced_on}
+use Rattle.line_text.proofs.WritingLemmas.{line_more, spelled-append}
 use Rattle.cyclo_core.specs.Ratio.{Ratio, same_ratio}
 use Rattle.cyclo_core.specs.CycloLaws.{same_ratio_is}
 use Rattle.symbol_table.specs.Index.{v_index}
 use Rattle.symbol_table.specs.declared.index.FIndex.{FIndex}
 use Rattle.symbol_table.specs.declared.index.VIndex.{VIndex}
+use Rattle.fusion_rules.specs.Names.{name_of}
 use Rattle.category_text.specs.declared.kind.VertexKind.{VertexKind}
 use Rattle.category_text.specs.declared.kind.VertexKind.TheVariants.{OnR, OnW, OnV}
 use Rattle.category_text.specs.Named.{NamedSymbols}
-use Rattle.category_text.specs.Canonical.{name_of, counting, vertices, sixes, behind, fuse_line, f_line, vertex_line, has_fuse_line, has_f_line, has_vertex_line, fuse_lines, f_lines, vertex_lines, head_lines, canonical}
-use Rattle.category_text.specs.Writing.{texts, names_text, fuse_text, f_text, vertex_text, row, plane, space, behind_text, written}
+use Rattle.category_text.specs.Canonical.{counting, vertices, sixes, behind, fuse_line, f_line, vertex_line, has_fuse_line, has_f_line, has_vertex_line, fuse_lines, f_lines, vertex_lines, head_lines, canonical}
+use Rattle.category_text.specs.Writing.{texts, fuse_text, f_text, vertex_text, row, plane, space, behind_text, written}
 
 -- text behind text
 pub behind_again : (t u v x y : List ℕ) → u ≡ t ++ x → v ≡ u ++ y → v ≡ t ++ (x ++ y)
@@ -39,13 +43,9 @@ up_to_more P n before now k below =
       | inr ge ↦ subst P (omega arith) now
     ]
 
-pub names_more : (names : List (List ℕ)) (k : ℕ) (old new : List ℕ) → new ≡ old ++ 32 ∷ name_of names k → k < length names → new ++ names_text (drop (k + 1) names) ≡ old ++ names_text (drop k names)
+pub names_more : (names : List (List ℕ)) (k : ℕ) (old new : List ℕ) → new ≡ old ++ 32 ∷ name_of names k → k < length names → new ++ spaced_on (drop (k + 1) names) ≡ old ++ spaced_on (drop k names)
 names_more names k old new e below =
-    ap (λ t. t ++ names_text (drop (k + 1) names)) e ∙ append_assoc old (32 ∷ name_of names k) (names_text (drop (k + 1) names)) ∙ ap (λ ns. old ++ names_text ns) (sym (drop_more names k [] below))
-
-pub spaced_names : (word : List ℕ) (names : List (List ℕ)) → spaced (word ∷ names) ≡ word ++ names_text names
-spaced_names word [] = sym (append-nil word)
-spaced_names word (name ∷ names) = ap (λ t. word ++ 32 ∷ t) (spaced_names name names)
+    ap (λ t. t ++ spaced_on (drop (k + 1) names)) e ∙ append_assoc old (32 ∷ name_of names k) (spaced_on (drop (k + 1) names)) ∙ ap (λ ns. old ++ spaced_on ns) (sym (drop_more names k [] below))
 
 texts_append : {A : Type 0} (f : A → List ℕ) (xs ys : List A) → texts f (xs ++ ys) ≡ texts f xs ++ texts f ys
 texts_append f [] ys = refl
@@ -81,10 +81,6 @@ texts_sixes n text =
     ∙ texts_space n (λ (x : VIndex). space n (λ (y : VIndex). text (behind x y)))
 
 -- the texts are those of the lines
-spelled_append : (ls ms : List (List (List ℕ))) → spelled (ls ++ ms) ≡ spelled ls ++ spelled ms
-spelled_append [] ms = refl
-spelled_append (l ∷ ls) ms = ap (λ t. spaced l ++ 10 ∷ t) (spelled_append ls ms) ∙ sym (append_assoc (spaced l) (10 ∷ spelled ls) (spelled ms))
-
 lines_are : {A : Type 0} (line : A → List (List ℕ)) (has : A → Bool) (xs : List A) → texts (λ (x : A). if has x then spelled (line x ∷ []) else []) xs ≡ spelled (map line (filter has xs))
 lines_are line has [] = refl
 lines_are line has (x ∷ xs) = go (has x) (lines_are line has xs)
@@ -107,11 +103,11 @@ module _ (named : NamedSymbols) where
   unfolding canonical
   written_is =
       rw (
-        spelled_append (head_lines named) (fuse_lines named ++ (f_lines named ++ (vertex_lines named OnR ++ (vertex_lines named OnW ++ vertex_lines named OnV)))),
-        spelled_append (fuse_lines named) (f_lines named ++ (vertex_lines named OnR ++ (vertex_lines named OnW ++ vertex_lines named OnV))),
-        spelled_append (f_lines named) (vertex_lines named OnR ++ (vertex_lines named OnW ++ vertex_lines named OnV)),
-        spelled_append (vertex_lines named OnR) (vertex_lines named OnW ++ vertex_lines named OnV),
-        spelled_append (vertex_lines named OnW) (vertex_lines named OnV),
+        spelled-append (head_lines named) (fuse_lines named ++ (f_lines named ++ (vertex_lines named OnR ++ (vertex_lines named OnW ++ vertex_lines named OnV)))),
+        spelled-append (fuse_lines named) (f_lines named ++ (vertex_lines named OnR ++ (vertex_lines named OnW ++ vertex_lines named OnV))),
+        spelled-append (f_lines named) (vertex_lines named OnR ++ (vertex_lines named OnW ++ vertex_lines named OnV)),
+        spelled-append (vertex_lines named OnR) (vertex_lines named OnW ++ vertex_lines named OnV),
+        spelled-append (vertex_lines named OnW) (vertex_lines named OnV),
         fuses_are,
         fs_are,
         vertices_are OnR,
@@ -133,3 +129,12 @@ is_one_is test x y says = same_truth test (same_ratio x y) (λ t. (same_ratio_is
 pub where_ok : {T E P : Type 0} (r : Result T E) → P → OnOk r P
 where_ok (Ok x) p = p
 where_ok (Err e) p = tt
+
+-- the head, part by part
+pub head_is : (root : ℕ) (names : List (List ℕ)) (a b c d e f g h : List ℕ) → b ≡ a ++ spelled ((codes "category" ∷ codes "1" ∷ []) ∷ []) → c ≡ b ++ codes "root" → d ≡ c ++ 32 ∷ decimal root → e ≡ d ++ 10 ∷ [] → f ≡ e ++ codes "labels" → g ≡ f ++ spaced_on names → h ≡ g ++ 10 ∷ []
+    → h ≡ a ++ spelled ((codes "category" ∷ codes "1" ∷ []) ∷ (codes "root" ∷ decimal root ∷ []) ∷ (codes "labels" ∷ names) ∷ [])
+head_is root names a b c d e f g h one two three four five six seven =
+    let last : h ≡ e ++ spelled ((codes "labels" ∷ names) ∷ []) = line_more (codes "labels") names e f g h five six seven in
+    let middle : e ≡ b ++ spelled ((codes "root" ∷ decimal root ∷ []) ∷ []) = line_more (codes "root") (decimal root ∷ []) b c d e two (three ∙ ap (λ t. c ++ t) (sym (append-nil (32 ∷ decimal root)))) four in
+    behind_again a b h (spelled ((codes "category" ∷ codes "1" ∷ []) ∷ [])) (spelled ((codes "root" ∷ decimal root ∷ []) ∷ []) ++ spelled ((codes "labels" ∷ names) ∷ [])) one (behind_again b e h (spelled ((codes "root" ∷ decimal root ∷ []) ∷ [])) (spelled ((codes "labels" ∷ names) ∷ [])) middle last)
+    ∙ ap (λ t. a ++ t) (sym (spelled-append ((codes "category" ∷ codes "1" ∷ []) ∷ []) ((codes "root" ∷ decimal root ∷ []) ∷ (codes "labels" ∷ names) ∷ []) ∙ ap (λ t. spelled ((codes "category" ∷ codes "1" ∷ []) ∷ []) ++ t) (spelled-append ((codes "root" ∷ decimal root ∷ []) ∷ []) ((codes "labels" ∷ names) ∷ []))))

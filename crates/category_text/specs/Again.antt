@@ -1,7 +1,8 @@
 -- Canonical texts are read again, and no two categories have the same.
-use Rattle.std.specs.Prelude.{◌≡◌, ℕ, ◌-◌, ◌^◌, ◌<◌, ◌||◌, ◌==◌, length, true, IsOkAnd, IsTrue}
+use Rattle.std.specs.Prelude.{◌≡◌, ℕ, ◌-◌, ◌^◌, ◌<◌, ◌||◌, ◌==◌, List, length, true, IsOkAnd, IsTrue, Ok}
 use Rattle.poly_core.specs.Rho.{is_accepted}
 use Rattle.cyclo_core.specs.Ratio.{Ratio, ring_at, is_held}
+use Rattle.fusion_rules.specs.declared.label.TheConstants.{UNIT}
 use Rattle.fusion_rules.specs.Fusion.{unit_fuses}
 use Rattle.fusion_rules.specs.Names.{AreNames}
 use Rattle.symbol_table.specs.Draft.{f_index_admissible}
@@ -24,7 +25,7 @@ pub record IsSaid (x : NamedSymbols) : Type 0 where
   pub some : 0 < length x.names
   pub counted : x.given.count ≡ length x.names
   pub accepted : is_accepted x.root ≡ true
-  pub units : (a b c : ℕ) → IsTrue (a == 0 || b == 0) → x.given.fuse a b c ≡ unit_fuses x.given.count a b c
+  pub units : (a b c : ℕ) → IsTrue (a == UNIT || b == UNIT) → x.given.fuse a b c ≡ unit_fuses x.given.count a b c
   pub labels : (a b c : ℕ) → IsTrue (x.given.fuse a b c) → AreThreeLabels x.given.count a b c
   pub f : (at : FIndex) → IsTrue (f_index_admissible x.given at) → IsNumberOf x.root (f_value x at)
   pub vertex : (kind : VertexKind) (at : VIndex) → IsTrue (x.given.fuse at.a at.b at.c) → IsNumberOf x.root (vertex_value x kind at)
@@ -62,3 +63,26 @@ SameText = (x y : NamedSymbols) → SameSymbols x y → canonical x ≡ canonica
 -- what is read from a canonical text has that text
 abbrev pub AllSettled : Type 0
 AllSettled = (x : NamedSymbols) → IsSaid x → IsOkAnd (category_of (canonical x)) (λ y. canonical y ≡ canonical x)
+
+-- The same of texts, over their bytes: what is read can be said.
+abbrev pub Reads : List ℕ → NamedSymbols → Type 0
+Reads bytes x = category_of bytes ≡ Ok x
+
+abbrev pub AllSaid : Type 0
+AllSaid = (bytes : List ℕ) (x : NamedSymbols) → Reads bytes x → IsSaid x
+
+-- what is read is read again from its canonical text, to the same category
+abbrev pub TextsReadAgain : Type 0
+TextsReadAgain = (bytes : List ℕ) (x : NamedSymbols) → Reads bytes x → ReadAgain x
+
+-- texts that are read have canonical texts short enough for the reader
+abbrev pub TextsShort : Type 0
+TextsShort = (bytes : List ℕ) (x : NamedSymbols) → Reads bytes x → length (canonical x) < 2 ^ 32 - 1
+
+-- texts of two categories have different canonical texts
+abbrev pub TextsApart : Type 0
+TextsApart = (a b : List ℕ) (x y : NamedSymbols) → Reads a x → Reads b y → canonical x ≡ canonical y → SameSymbols x y
+
+-- the canonical text of what was read is read, and what is written of that is the same text
+abbrev pub TextsSettled : Type 0
+TextsSettled = (bytes : List ℕ) (x : NamedSymbols) → Reads bytes x → IsOkAnd (category_of (canonical x)) (λ y. canonical y ≡ canonical x)

@@ -1,53 +1,71 @@
 -- What functions of the code answer: what is stated, unless memory runs out.
-use Rattle.std.specs.Prelude.{◌≡◌, ℕ, List, [], ◌∷◌, ◌++◌, Bool, true, false, ◌==◌, nat_lt, length, if◌then◌else◌, Option, Some, None, Result, Ok, Err}
+use Rattle.std.specs.Prelude.{◌≡◌, ℕ, List, [], ◌∷◌, ◌++◌, true, false, ◌==◌, nat_lt, length, if◌then◌else◌, Option, Some, None, Result, Ok, Err}
+use Rattle.line_text.specs.Text.{Found, Counted}
+use Rattle.line_text.specs.declared.fault.LineFault.{LineFault}
+use Rattle.fusion_rules.specs.declared.label.TheConstants.{LABEL_LIMIT}
 use Rattle.fusion_rules.specs.Fusion.{Fusion, fuses}
 use Rattle.fusion_rules.specs.Names.{is_among, is_name}
 use Rattle.symbol_table.specs.Symbols.{Given}
 use Rattle.symbol_table.specs.Index.{AreSixLabels, AreThreeLabels}
 use Rattle.cyclo_core.specs.Ratio.{Ratio}
-use Rattle.cyclo_text.specs.declared.fault.NumberWord.{NumberWord}
 use Rattle.category_text.specs.declared.fault.CategoryCause.{CategoryCause}
-use Rattle.category_text.specs.declared.fault.CategoryCause.TheVariants.{Labels, Limit, Repeated, Number}
+use Rattle.category_text.specs.declared.fault.CategoryCause.TheVariants.{Labels, Limit, Line, Repeated}
 use Rattle.category_text.specs.declared.fault.CategoryFault.{CategoryFault}
 use Rattle.category_text.specs.declared.fault.CategoryFault.TheVariants.{At, Memory}
+use Rattle.category_text.specs.declared.fault.Refused.{Refused}
 use Rattle.category_text.specs.declared.fault.Stop.{Stop}
 use Rattle.category_text.specs.declared.fault.Stop.TheVariants.{Cause, NoMemory}
 use Rattle.category_text.specs.declared.kind.Symbol.{Symbol}
 use Rattle.category_text.specs.declared.kind.Symbol.TheVariants.{OfF, OfR, OfW, OfV}
-use Rattle.category_text.specs.declared.body.Body.{Body}
-use Rattle.category_text.specs.declared.body.Body.TheVariants.{Fusing, Setting}
+use Rattle.category_text.specs.declared.symbol_line.SymbolLine.{SymbolLine}
 use Rattle.symbol_table.specs.Draft.{DraftValue}
-use Rattle.category_text.specs.Named.{named_draft, symbol_fault, with_symbol}
-use Rattle.category_text.specs.Reading.{◌>>=◌, Fault, SoFar, may_set}
+use Rattle.category_text.specs.Named.{NamedSymbols, named_draft}
+use Rattle.category_text.specs.Reading.{◌>>=◌, Fault, SoFar, body_of}
 
+-- A line: what is stated, as functions tell it that take no memory.
+abbrev pub Tells : {X Y : Type 0} → (X → Y) → Result X CategoryCause → Result Y CategoryCause → Type 0
+Tells view (Ok x) stated = stated ≡ Ok (view x)
+Tells view (Err cause) stated = stated ≡ Err cause
+
+-- The same of a line that is kept in memory.
 abbrev pub LineFails : {Y : Type 0} → Stop → Result Y CategoryCause → Type 0
 LineFails NoMemory stated = Unit {0}
 LineFails (Cause cause) stated = stated ≡ Err cause
 
--- the reading of a line
 abbrev pub Says : {X Y : Type 0} → (X → Y) → Result X Stop → Result Y CategoryCause → Type 0
 Says view (Ok x) stated = stated ≡ Ok (view x)
 Says view (Err stop) stated = LineFails stop stated
 
+-- Lines: what is stated, as functions tell it that take no memory.
+abbrev pub fault_at : Refused → Fault
+fault_at refused = record { line = refused.line; cause = refused.cause }
+
+abbrev pub TellsLines : {X Y : Type 0} → (X → Y) → Result X Refused → Result Y Fault → Type 0
+TellsLines view (Ok x) stated = stated ≡ Ok (view x)
+TellsLines view (Err refused) stated = stated ≡ Err (fault_at refused)
+
+-- The same of lines that are kept in memory.
 abbrev pub Fails : {Y : Type 0} → CategoryFault → Result Y Fault → Type 0
 Fails Memory stated = Unit {0}
 Fails (At line cause) stated = stated ≡ Err (record { line = line; cause = cause })
 
--- the reading of lines
 abbrev pub Told : {X Y : Type 0} → (X → Y) → Result X CategoryFault → Result Y Fault → Type 0
 Told view (Ok x) stated = stated ≡ Ok (view x)
 Told view (Err fault) stated = Fails fault stated
 
-abbrev pub lined_at : {X : Type 0} → ℕ → Result X CategoryCause → Result X CategoryFault
+abbrev pub refused_line : LineFault → Refused
+refused_line fault = record { line = fault.line; cause = Line fault.cause }
+
+abbrev pub lined_at : {X : Type 0} → ℕ → Result X CategoryCause → Result X Refused
 lined_at line (Ok x) = Ok x
-lined_at line (Err cause) = Err (At line cause)
+lined_at line (Err cause) = Err (record { line = line; cause = cause })
 
 abbrev pub told_at : {X : Type 0} → ℕ → Result X Stop → Result X CategoryFault
 told_at line (Ok x) = Ok x
 told_at line (Err NoMemory) = Err Memory
 told_at line (Err (Cause cause)) = Err (At line cause)
 
--- The rules alone, or the draft: what the lines so far said.
+-- What the lines so far said.
 
 -- the triples of rules, and no value
 abbrev pub rules_given : Fusion → Given Ratio
@@ -61,30 +79,40 @@ rules_given rules = record {
   set_v = λ a b c. None;
 }
 
--- as a draft; rules alone have no value
-abbrev pub body_draft : Body → DraftValue ℕ Ratio
-body_draft (Fusing ring rules) = record { version = 1; ring = ring; rules = rules; set_f = []; set_r = []; set_w = []; set_v = [] }
-body_draft (Setting draft) = draft
+-- rules alone, as a draft of no value
+abbrev pub bare : ℕ → Fusion → DraftValue ℕ Ratio
+bare ring rules = record { version = 1; ring = ring; rules = rules; set_f = []; set_r = []; set_w = []; set_v = [] }
 
-abbrev pub is_setting : Body → Bool
-is_setting (Fusing ring rules) = false
-is_setting (Setting draft) = true
+-- while fuse lines are read, and from the first symbol line on
+abbrev pub fusing : ℕ → List (List ℕ) → Fusion → SoFar
+fusing ring names rules = record { said = named_draft names (bare ring rules); has_symbols = false }
 
-abbrev pub so_far : List (List ℕ) → Body → SoFar
-so_far names body = record { said = named_draft names (body_draft body); has_symbols = is_setting body }
+abbrev pub setting : List (List ℕ) → DraftValue ℕ Ratio → SoFar
+setting names draft = record { said = named_draft names draft; has_symbols = true }
+
+-- what a text says that is read to its end over what the lines so far said
+abbrev pub body_said : SoFar → List Found → Result NamedSymbols Fault
+body_said before found = body_of before found >>= λ whole. Ok whole.said
+
+-- what is left to be found, with a symbol line in front that was found and not read
+abbrev pub left_of : Option SymbolLine → List Found → List Found
+left_of None found = []
+left_of (Some symbol) found = Counted symbol.line.number symbol.line.text.now ∷ found
+
+-- What is left behind the fuse lines, over any ring: the text says what the rest says over these rules.
+abbrev pub Fuses : List (List ℕ) → Result (Option SymbolLine) Refused → Fusion → Fusion → List Found → List Found → Type 0
+Fuses names (Ok first) old new found left = (ring : ℕ) → body_said (fusing ring names old) found ≡ body_said (setting names (bare ring new)) (left_of first left)
+Fuses names (Err refused) old new found left = (ring : ℕ) → body_said (fusing ring names old) found ≡ Err (fault_at refused)
+
+-- the next symbol line behind others
+abbrev pub FindsSymbol : Result (Option SymbolLine) Refused → List Found → List Found → Type 0
+FindsSymbol (Ok next) found left = (said : NamedSymbols) → body_said (record { said = said; has_symbols = true }) found ≡ body_said (record { said = said; has_symbols = true }) (left_of next left)
+FindsSymbol (Err refused) found left = (said : NamedSymbols) → body_said (record { said = said; has_symbols = true }) found ≡ Err (fault_at refused)
 
 -- a cause, if there is one
 abbrev pub may : Option CategoryCause → Result Unit CategoryCause
 may None = Ok tt
 may (Some cause) = Err cause
-
--- one symbol set, or why it isn't
-abbrev pub set_by : Given Ratio → Symbol → Ratio → Result (Given Ratio) CategoryCause
-set_by g at value = may_set (symbol_fault g at) >>= λ _. Ok (with_symbol g at value)
-
--- why a symbol with a refused number isn't set
-abbrev pub refused_by : Given Ratio → Symbol → NumberWord → Result (Given Ratio) CategoryCause
-refused_by g at fault = may_set (symbol_fault g at) >>= λ _. Err (Number fault)
 
 -- the labels of a symbol are below a count
 abbrev pub SymbolBelow : ℕ → Symbol → Type 0
@@ -98,11 +126,11 @@ SymbolBelow count (OfV at) = AreThreeLabels count at.a at.b at.c
 -- what is told of the names that were added of so many words
 abbrev pub judged_of : List (List ℕ) → ℕ → Result (List (List ℕ)) CategoryCause
 judged_of names words =
-    if words == 0 then Err Labels else (if nat_lt 12 words then Err Limit else (if nat_lt (length names) words then Err Repeated else Ok names))
+    if words == 0 then Err Labels else (if nat_lt LABEL_LIMIT words then Err Limit else (if nat_lt (length names) words then Err Repeated else Ok names))
 
 -- names with one more, where there is room and it isn't among them
 abbrev pub add_to : List (List ℕ) → List ℕ → List (List ℕ)
-add_to names name = if length names == 12 then names else (if is_among names name then names else names ++ name ∷ [])
+add_to names name = if length names == LABEL_LIMIT then names else (if is_among names name then names else names ++ name ∷ [])
 
 abbrev pub kept : List (List ℕ) → List (List ℕ) → List (List ℕ)
 kept names [] = names

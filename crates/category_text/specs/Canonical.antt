@@ -1,10 +1,12 @@
 -- The one canonical text of named symbols.
-use Rattle.std.specs.Prelude.{ℕ, zero, suc, ◌+◌, List, [], ◌∷◌, ◌++◌, Bool, not, ◌&&◌, ◌==◌, map, filter, slice_index_or, codes, Option}
+use Rattle.std.specs.Prelude.{ℕ, zero, suc, ◌+◌, List, [], ◌∷◌, ◌++◌, Bool, not, ◌&&◌, ◌==◌, map, filter, codes, Option}
 use Rattle.std.specs.List.{flat_map}
 use Rattle.std.specs.Fmt.{decimal}
 use Rattle.line_text.specs.Spelling.{spelled}
 use Rattle.cyclo_core.specs.Ratio.{Ratio, ring_at, same_ratio}
 use Rattle.cyclo_text.specs.NumberWords.{spelled_number}
+use Rattle.fusion_rules.specs.declared.label.TheConstants.{UNIT}
+use Rattle.fusion_rules.specs.Names.{name_of}
 use Rattle.symbol_table.specs.Symbols.{Given, f_of, vertex_of}
 use Rattle.symbol_table.specs.Draft.{f_index_admissible}
 use Rattle.symbol_table.specs.Index.{f_index, v_index}
@@ -29,9 +31,6 @@ behind x y = f_index x.a x.b x.c y.a y.b y.c
 -- six labels below a count, in the same order
 abbrev pub sixes : ℕ → List FIndex
 sixes n = flat_map (λ (x : VIndex). map (behind x) (vertices n)) (vertices n)
-
-abbrev pub name_of : List (List ℕ) → ℕ → List ℕ
-name_of names label = slice_index_or names label []
 
 abbrev pub is_one : ℕ → Ratio → Bool
 is_one root value = same_ratio value (ring_at root).one
@@ -75,7 +74,7 @@ module _ (named : NamedSymbols) where
   -- A triple has a line where its first two labels aren't the unit, and a symbol where its index is admissible and its
   -- value isn't 1.
   abbrev pub has_fuse_line : VIndex → Bool
-  has_fuse_line at = not (at.a == 0) && (not (at.b == 0) && named.given.fuse at.a at.b at.c)
+  has_fuse_line at = not (at.a == UNIT) && (not (at.b == UNIT) && named.given.fuse at.a at.b at.c)
 
   abbrev pub has_f_line : FIndex → Bool
   has_f_line at = f_index_admissible named.given at && not (is_one named.root (f_value at))

@@ -7,6 +7,7 @@ use Rattle.poly_core.specs.Rho.{is_accepted}
 use Rattle.cyclo_core.specs.Ratio.{Ratio}
 use Rattle.cyclo_text.specs.NumberWords.{number_of}
 use Rattle.cyclo_text.specs.declared.fault.NumberWord.{NumberWord}
+use Rattle.fusion_rules.specs.declared.label.TheConstants.{LABEL_LIMIT, UNIT}
 use Rattle.fusion_rules.specs.Names.{label_of, all_names, has_repeat}
 use Rattle.symbol_table.specs.Symbols.{Given}
 use Rattle.symbol_table.specs.Index.{f_index, v_index}
@@ -17,6 +18,8 @@ use Rattle.category_text.specs.declared.fault.CategoryCause.{CategoryCause}
 use Rattle.category_text.specs.declared.fault.CategoryCause.TheVariants.{Line, Header, Root, Labels, Limit, Repeated, Misplaced, Word, Short, Long, UnknownLabel, UnitFuse, NotAdmissible, Number}
 use Rattle.category_text.specs.declared.kind.Kind.{Kind}
 use Rattle.category_text.specs.declared.kind.Kind.TheVariants.{F, R, W, V}
+use Rattle.category_text.specs.declared.kind.LineKind.{LineKind}
+use Rattle.category_text.specs.declared.kind.LineKind.TheVariants.{Fusion, OfSymbol}
 use Rattle.category_text.specs.declared.kind.Symbol.{Symbol}
 use Rattle.category_text.specs.declared.kind.Symbol.TheVariants.{OfF, OfR, OfW, OfV}
 use Rattle.category_text.specs.Named.{NamedSymbols, only_units, with_fusion, symbol_fault, with_symbol}
@@ -64,7 +67,7 @@ root_of words = do
 abbrev pub names_in : List (List ℕ) → Result (List (List ℕ)) CategoryCause
 names_in [] = Err Labels
 names_in (name ∷ names) =
-    if not (all_names (name ∷ names)) then Err Labels else (if nat_lt 12 (length (name ∷ names)) then Err Limit else (if has_repeat (name ∷ names) then Err Repeated else Ok (name ∷ names)))
+    if not (all_names (name ∷ names)) then Err Labels else (if nat_lt LABEL_LIMIT (length (name ∷ names)) then Err Limit else (if has_repeat (name ∷ names) then Err Repeated else Ok (name ∷ names)))
 
 abbrev pub labels_of : List (List ℕ) → Result (List (List ℕ)) CategoryCause
 labels_of [] = Err Labels
@@ -77,12 +80,12 @@ pub record SoFar : Type 0 where
   pub said : NamedSymbols
   pub has_symbols : Bool
 
+abbrev pub named_by : Option ℕ → Result ℕ CategoryCause
+named_by (Some number) = Ok number
+named_by None = Err UnknownLabel
+
 abbrev pub label : List (List ℕ) → List ℕ → Result ℕ CategoryCause
 label names text = named_by (label_of names text)
-  where
-    named_by : Option ℕ → Result ℕ CategoryCause
-    named_by (Some number) = Ok number
-    named_by None = Err UnknownLabel
 
 -- the three labels from a place on
 abbrev pub labels_at : List (List ℕ) → List (List ℕ) → ℕ → Result VIndex CategoryCause
@@ -94,7 +97,7 @@ labels_at names words place = do
 
 -- first the unit, then a triple that is there
 abbrev pub fusion_fault : Given Ratio → VIndex → Option CategoryCause
-fusion_fault g at = if at.a == 0 || at.b == 0 then Some UnitFuse else (if g.fuse at.a at.b at.c then Some Repeated else None)
+fusion_fault g at = if at.a == UNIT || at.b == UNIT then Some UnitFuse else (if g.fuse at.a at.b at.c then Some Repeated else None)
 
 abbrev pub fused : NamedSymbols → VIndex → Option CategoryCause → Result SoFar CategoryCause
 fused said at (Some cause) = Err cause
@@ -138,6 +141,10 @@ abbrev pub numbered : Result Ratio NumberWord → Result Ratio CategoryCause
 numbered (Ok value) = Ok value
 numbered (Err fault) = Err (Number fault)
 
+-- one value more, and a symbol line read
+abbrev pub with_value : NamedSymbols → Symbol → Ratio → SoFar
+with_value said at value = record { said = record said { given = with_symbol said.given at value }; has_symbols = true }
+
 -- `f a b c d e f NUMBER`, `r a b c NUMBER`, `w a b c NUMBER`, `v a b c NUMBER`
 unfoldable pub symbol_of : Kind → NamedSymbols → List (List ℕ) → Result SoFar CategoryCause
 symbol_of kind said words = do
@@ -145,24 +152,31 @@ symbol_of kind said words = do
   at ← symbol_at kind said.names words
   _ ← may_set (symbol_fault said.given at)
   value ← numbered (number_of said.root (word_in words (number_place kind)))
-  Ok (record { said = record said { given = with_symbol said.given at value }; has_symbols = true })
+  Ok (with_value said at value)
 
 abbrev pub is_head : List ℕ → Bool
 is_head text = bytes_eq text (codes "category") || (bytes_eq text (codes "root") || bytes_eq text (codes "labels"))
 
-abbrev pub symbol_by : Option Kind → NamedSymbols → List (List ℕ) → Result SoFar CategoryCause
-symbol_by (Some kind) said words = symbol_of kind said words
-symbol_by None said words = Err Word
+abbrev pub symbol_kind : Option Kind → Result LineKind CategoryCause
+symbol_kind (Some kind) = Ok (OfSymbol kind)
+symbol_kind None = Err Word
 
--- a fuse line, in its place before all symbol lines
-abbrev pub fusion_by : SoFar → List (List ℕ) → Result SoFar CategoryCause
-fusion_by before words = if before.has_symbols then Err Misplaced else fuse_of before.said words
+-- what a line gives by its first word; a line of the head stands only in front
+abbrev pub line_kind : List (List ℕ) → Result LineKind CategoryCause
+line_kind words =
+    if is_head (word_in words 0) then Err Misplaced
+    else (if has_word words 0 (codes "fuse") then Ok Fusion else symbol_kind (kind_of (word_in words 0)))
+
+-- fuse lines stand before all symbol lines
+abbrev pub line_by : LineKind → SoFar → List (List ℕ) → Result SoFar CategoryCause
+line_by Fusion before words = if before.has_symbols then Err Misplaced else fuse_of before.said words
+line_by (OfSymbol kind) before words = symbol_of kind before.said words
 
 -- one line behind the labels
 unfoldable pub line_of : SoFar → List (List ℕ) → Result SoFar CategoryCause
-line_of before words =
-    if is_head (word_in words 0) then Err Misplaced
-    else (if has_word words 0 (codes "fuse") then fusion_by before words else symbol_by (kind_of (word_in words 0)) before.said words)
+line_of before words = do
+  kind ← line_kind words
+  line_by kind before words
 
 -- The whole text.
 
@@ -172,16 +186,22 @@ required missing count [] = Err (record { line = count + 1; cause = missing })
 required missing count (Faulty number cause ∷ more) = Err (record { line = number; cause = Line cause })
 required missing count (Counted number text ∷ more) = Ok (number, (words_of text, more))
 
--- the root, the names, and what is found behind the labels
-unfoldable pub head_of : Reading → Result ((ℕ × List (List ℕ)) × List Found) Fault
-head_of text = do
+-- the root, and the line behind it
+unfoldable pub front_of : Reading → Result (ℕ × (ℕ × (List (List ℕ) × List Found))) Fault
+front_of text = do
   first ← required Header text.count text.ahead
   _ ← on_line first.0 (header_of first.1.0)
   second ← required Root text.count first.1.1
   root ← on_line second.0 (root_of second.1.0)
   third ← required Labels text.count second.1.1
-  names ← on_line third.0 (labels_of third.1.0)
-  Ok ((root, names), third.1.1)
+  Ok (root, third)
+
+-- the root, the names, and what is found behind the labels
+unfoldable pub head_of : Reading → Result ((ℕ × List (List ℕ)) × List Found) Fault
+head_of text = do
+  front ← front_of text
+  names ← on_line front.1.0 (labels_of front.1.1.0)
+  Ok ((front.0, names), front.1.1.1)
 
 -- line after line, each read over what those before it said
 abbrev pub body_of : SoFar → List Found → Result SoFar Fault

@@ -4,14 +4,15 @@ use Rattle.line_text.specs.Spelling.{spelled, ArePlainLines}
 use Rattle.poly_core.specs.Rho.{is_accepted}
 use Rattle.cyclo_core.specs.Ratio.{Ratio}
 use Rattle.cyclo_text.specs.NumberWords.{number_of, spelled_number}
-use Rattle.fusion_rules.specs.Names.{AreNames}
+use Rattle.fusion_rules.specs.declared.label.TheConstants.{UNIT}
+use Rattle.fusion_rules.specs.Names.{AreNames, name_of}
 use Rattle.symbol_table.specs.declared.index.VIndex.{VIndex}
 use Rattle.category_text.specs.declared.kind.Symbol.{Symbol}
 use Rattle.category_text.specs.declared.kind.Symbol.TheVariants.{OfF, OfR, OfW, OfV}
 use Rattle.category_text.specs.Named.{NamedSymbols, with_fusion, with_symbol, symbol_fault}
 use Rattle.category_text.specs.Reading.{begun, category_of}
 use Rattle.category_text.specs.Answers.{SymbolBelow}
-use Rattle.category_text.specs.Canonical.{name_of, fuse_line, head_lines}
+use Rattle.category_text.specs.Canonical.{fuse_line, head_lines}
 
 -- the words of a symbol's line
 abbrev pub symbol_words : List (List ℕ) → Symbol → Ratio → List (List ℕ)
@@ -41,7 +42,7 @@ set_all said (s ∷ ss) = set_all (set_with said s.0 s.1) ss
 abbrev pub FreshTriples : NamedSymbols → List VIndex → Type 0
 FreshTriples said [] = Unit {0}
 FreshTriples said (t ∷ ts) =
-    (t.a < length said.names) × (t.b < length said.names) × (t.c < length said.names) × ((t.a == 0) ≡ false) × ((t.b == 0) ≡ false) × (said.given.fuse t.a t.b t.c ≡ false) × FreshTriples (fused_with said t) ts
+    (t.a < length said.names) × (t.b < length said.names) × (t.c < length said.names) × ((t.a == UNIT) ≡ false) × ((t.b == UNIT) ≡ false) × (said.given.fuse t.a t.b t.c ≡ false) × FreshTriples (fused_with said t) ts
 
 abbrev pub FreshSymbols : NamedSymbols → List (Symbol × Ratio) → Type 0
 FreshSymbols said [] = Unit {0}

@@ -18,10 +18,6 @@ abbrev pub texts : {A : Type 0} → (A → List ℕ) → List A → List ℕ
 texts text [] = []
 texts text (x ∷ xs) = text x ++ texts text xs
 
--- names, each behind a space
-abbrev pub names_text : List (List ℕ) → List ℕ
-names_text names = texts (λ (name : List ℕ). 32 ∷ name) names
-
 -- the line of an index, or nothing
 abbrev pub fuse_text : NamedSymbols → VIndex → List ℕ
 fuse_text named at = if has_fuse_line named at then spelled (fuse_line named at ∷ []) else []

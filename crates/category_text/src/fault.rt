@@ -1,11 +1,11 @@
 ghost use Rattle.std.specs.Prelude.{◌≡◌};
 ghost use Rattle.category_text.specs.Answers.{told_at, lined_at};
-ghost use Rattle.category_text.specs.declared.fault.CategoryCause.TheVariants.{Line as LineItself};
 ghost use Rattle.category_text.specs.declared.fault.CategoryFault.TheVariants.{At};
-ghost use Rattle.category_text.specs.declared.fault.Stop.TheVariants.{Cause};
+ghost use Rattle.category_text.specs.declared.fault.Stop.TheVariants.{Cause, NoMemory};
 
 use cyclo_text::NumberWord;
 use line_text::{LineCause, LineFault};
+use std::alloc::AllocError;
 
 /// Why a line of a category text is refused. Of several causes at one line the first in the order of the line's kind
 /// counts.
@@ -49,20 +49,40 @@ pub enum CategoryFault {
     Memory,
 }
 
-/// Why the reading of one line stops.
+/// The first line that is refused, with its first cause, as functions tell it that take no memory.
+#[derive(Clone, Copy, Debug, PartialEq, Eq)]
+pub(crate) struct Refused {
+    pub line: u32,
+    pub cause: CategoryCause,
+}
+
+/// Why the reading of a line stops that is kept in memory.
 #[derive(Clone, Copy, Debug, PartialEq, Eq)]
 pub(crate) enum Stop {
     Cause(CategoryCause),
     NoMemory,
 }
 
-impl From<LineFault> for CategoryFault {
-    ghost from_gives = { λ f e. e ≡ At f.line (LineItself f.cause) };
+impl From<LineFault> for Refused {
+    ghost use Rattle.category_text.specs.Answers.{refused_line};
 
-    fn from(fault: LineFault) -> CategoryFault {
-        CategoryFault::At {
+    ghost from_gives = { λ f r. r ≡ refused_line f };
+
+    fn from(fault: LineFault) -> Refused {
+        Refused {
             line: fault.line,
             cause: CategoryCause::Line(fault.cause),
+        }
+    }
+}
+
+impl From<Refused> for CategoryFault {
+    ghost from_gives = { λ r e. e ≡ At r.line r.cause };
+
+    fn from(refused: Refused) -> CategoryFault {
+        CategoryFault::At {
+            line: refused.line,
+            cause: refused.cause,
         }
     }
 }
@@ -75,13 +95,21 @@ impl From<CategoryCause> for Stop {
     }
 }
 
+impl From<AllocError> for Stop {
+    ghost from_gives = { λ a e. e ≡ NoMemory };
+
+    fn from(_error: AllocError) -> Stop {
+        Stop::NoMemory
+    }
+}
+
 /// A cause, as the fault of a line.
-pub(crate) fn on_line<T>(line: u32, read: Result<T, CategoryCause>) -> Result<T, CategoryFault>
+pub(crate) fn on_line<T>(line: u32, read: Result<T, CategoryCause>) -> Result<T, Refused>
     ensures { result ≡ lined_at line read }
 {
     match read {
         Ok(value) => Ok(value),
-        Err(cause) => Err(CategoryFault::At { line, cause }),
+        Err(cause) => Err(Refused { line, cause }),
     }
 }
 

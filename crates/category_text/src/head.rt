@@ -1,12 +1,12 @@
 ghost use Rattle.std.specs.Prelude.{◌≡◌, ◌<◌, [], List, drop, length, ◌==◌, ◌&&◌, Some, None, IfOk, if◌then◌else◌};
 ghost use Rattle.line_text.specs.Text.{words_of};
-ghost use Rattle.category_text.specs.Reading.{required, header_of, root_of, root_at, labels_of, head_of};
-ghost use Rattle.category_text.specs.Answers.{judged_of, kept_of, Says, Told};
+ghost use Rattle.category_text.specs.Reading.{required, header_of, root_of, root_at, labels_of, front_of, head_of};
+ghost use Rattle.category_text.specs.Answers.{Says, Tells, TellsLines, Told, judged_of, kept_of};
 
-use crate::fault::{CategoryCause, CategoryFault, Stop, on_line, stop_on_line};
+use crate::fault::{CategoryCause, CategoryFault, Refused, Stop, on_line, stop_on_line};
 use crate::words::has_two_words;
 use cyclo_core::Cyclo;
-use fusion_rules::{NameFault, Names};
+use fusion_rules::{LABEL_LIMIT, NameFault, Names};
 use line_text::{Line, Lines, plain_number};
 use std::alloc::Global;
 
@@ -16,23 +16,32 @@ pub(crate) fn read_head(alloc: Global, lines: &mut Lines) -> Result<(Cyclo, Name
     ensures head { Told (λ head. ((head.0, head.1), lines.new.ahead)) result (head_of lines.old) }
     ensures some { IfOk result (λ head. 0 < length head.1) }
 {
+    let (ring, line) = read_front(lines)?;
+    let names = stop_on_line(line.number, read_labels(alloc, &line))?;
+    Ok((ring, names))
+}
+
+/// Reads the first two lines, and finds the third.
+#[tactic(auto, unfolding(crate::specs::Reading::front_of))]
+fn read_front<'a>(lines: &mut Lines<'a>) -> Result<(Cyclo, Line<'a>), Refused>
+    ensures front { TellsLines (λ front. (front.0, (front.1.number, (words_of front.1.text.now, lines.new.ahead)))) result (front_of lines.old) }
+{
     let line = required(lines, CategoryCause::Header)?;
     on_line(line.number, read_header(&line))?;
     let line = required(lines, CategoryCause::Root)?;
     let ring = on_line(line.number, read_root(&line))?;
     let line = required(lines, CategoryCause::Labels)?;
-    let names = stop_on_line(line.number, read_labels(alloc, &line))?;
-    Ok((ring, names))
+    Ok((ring, line))
 }
 
 /// A line that has to come.
-fn required<'a>(lines: &mut Lines<'a>, missing: CategoryCause) -> Result<Line<'a>, CategoryFault>
-    ensures line { Told (λ line. (line.number, (words_of line.text.now, lines.new.ahead))) result (required missing lines.old.count lines.old.ahead) }
+fn required<'a>(lines: &mut Lines<'a>, missing: CategoryCause) -> Result<Line<'a>, Refused>
+    ensures line { TellsLines (λ line. (line.number, (words_of line.text.now, lines.new.ahead))) result (required missing lines.old.count lines.old.ahead) }
     ensures count { lines.new.count ≡ lines.old.count }
 {
     match lines.next_line()? {
         Some(line) => Ok(line),
-        None => Err(CategoryFault::At {
+        None => Err(Refused {
             line: lines.count() + 1,
             cause: missing,
         }),
@@ -88,7 +97,10 @@ fn read_labels(alloc: Global, line: &Line) -> Result<Names, Stop>
         keep(&mut names, word)?;
         place += 1;
     }
-    judged(names, place - 1)
+    match judged(names, place - 1) {
+        Ok(names) => Ok(names),
+        Err(cause) => Err(Stop::Cause(cause)),
+    }
 }
 
 /// Adds a name. Names that are too many or stand twice are told for the whole line.
@@ -105,18 +117,18 @@ fn keep(names: &mut Names, word: &[u8]) -> Result<(), Stop>
 }
 
 /// The names of so many words.
-fn judged(names: Names, words: usize) -> Result<Names, Stop>
-    ensures judged { Says (λ names. names) result (judged_of names words) }
+fn judged(names: Names, words: usize) -> Result<Names, CategoryCause>
+    ensures judged { Tells (λ names. names) result (judged_of names words) }
     ensures some { IfOk result (λ names. 0 < length names) }
 {
     if words == 0 {
-        return Err(Stop::Cause(CategoryCause::Labels));
+        return Err(CategoryCause::Labels);
     }
-    if words > 12 {
-        return Err(Stop::Cause(CategoryCause::Limit));
+    if words > LABEL_LIMIT {
+        return Err(CategoryCause::Limit);
     }
     if (names.count() as usize) < words {
-        return Err(Stop::Cause(CategoryCause::Repeated));
+        return Err(CategoryCause::Repeated);
     }
     Ok(names)
 }

@@ -9,6 +9,13 @@ pub(crate) enum Kind {
     V,
 }
 
+/// What a line behind the labels gives, by its first word.
+#[derive(Clone, Copy, Debug, PartialEq, Eq)]
+pub(crate) enum LineKind {
+    Fusion,
+    OfSymbol(Kind),
+}
+
 /// A symbol of one kind, by its labels.
 #[derive(Clone, Copy, Debug, PartialEq, Eq)]
 pub(crate) enum Symbol {

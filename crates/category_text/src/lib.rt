@@ -4,6 +4,8 @@
 //! - *head*: the lines `category 1`, `root N` and `labels` with the names, the unit first (`specs/Reading.antt`).
 //! - *fuse line*: one triple of labels; the unit triples are there without lines (`specs/Reading.antt`).
 //! - *symbol line*: the value of one symbol at an admissible index; a symbol without a line is 1 (`specs/Reading.antt`).
+//! - *line kind*: what a line behind the head gives by its first word; fuse lines stand before all symbol lines
+//!   (`specs/Reading.antt`, `line_kind`).
 //! - *named symbols*: the root, the names, the triples and the values that were set, as contracts see what a text says
 //!   (`specs/Named.antt`).
 //! - *category of a text*: its named symbols, or the first line that is refused, with its first cause
@@ -17,7 +19,6 @@
 //!   `SameSymbols`).
 #![tactic(auto)]
 
-mod body;
 mod fault;
 mod head;
 mod kind;
@@ -25,6 +26,7 @@ mod laws;
 mod line_reading;
 mod named;
 mod reading;
+mod symbol_line;
 mod symbols;
 mod words;
 mod writing;

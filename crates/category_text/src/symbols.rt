@@ -1,21 +1,22 @@
-ghost use Rattle.std.specs.Prelude.{◌≡◌, ◌<◌, ◌≤◌, ◌+◌, ℕ, length, IfOk, IsTrue};
+ghost use Rattle.std.specs.Prelude.{◌≡◌, ◌<◌, ◌≤◌, ◌+◌, ℕ, length, None, Err, IfOk, IsOk, IsTrue, OnOk};
 ghost use Rattle.line_text.specs.Text.{words_of};
 ghost use Rattle.cyclo_core.specs.Ratio.{ring_at};
+ghost use Rattle.cyclo_text.specs.NumberWords.{number_of};
 ghost use Rattle.symbol_table.specs.Index.{AreThreeLabels};
 ghost use Rattle.symbol_table.specs.Draft.{Sets, given};
 ghost use Rattle.category_text.specs.Named.{named_draft, symbol_fault, with_symbol};
-ghost use Rattle.category_text.specs.Reading.{label, labels_at, kind_of, number_place, symbol_at, symbol_of};
-ghost use Rattle.category_text.specs.declared.body.Body.TheVariants.{Setting};
-ghost use Rattle.category_text.specs.Answers.{LineFails, Says, SymbolBelow, refused_by, set_by, so_far};
+ghost use Rattle.category_text.specs.Reading.{label, labels_at, kind_of, may_set, number_place, numbered, symbol_at, symbol_of, with_value};
+ghost use Rattle.category_text.specs.declared.fault.Stop.TheVariants.{NoMemory};
+ghost use Rattle.category_text.specs.Answers.{Says, SymbolBelow, Tells, setting};
 
 use crate::fault::{CategoryCause, Stop};
 use crate::kind::{Kind, Symbol};
 use crate::words::sized;
 use cyclo_core::{Cyclo, Number};
-use cyclo_text::{NumberWord, read_number};
+use cyclo_text::read_number;
 use fusion_rules::Names;
 use line_text::Line;
-use ring_laws::StarRing;
+use std::alloc::AllocError;
 use symbol_table::{Draft, FIndex, SetFault, VIndex};
 
 /// The kind that a line's first word names.
@@ -37,8 +38,7 @@ pub(crate) fn kind_of(word: &[u8]) -> Option<Kind>
     None
 }
 
-/// Reads a symbol line into the draft.
-#[tactic(auto, unfolding(crate::specs::Reading::symbol_of))]
+/// Reads a symbol line into the draft. Want of memory refuses only a line that is in order.
 pub(crate) fn read_symbol(
     names: &Names,
     line: &Line,
@@ -46,29 +46,68 @@ pub(crate) fn read_symbol(
     draft: &mut Draft<Cyclo>,
 ) -> Result<(), Stop>
     requires { length names.now ≡ draft.old.rules.count }
-    ensures said { Says (λ _. so_far names.now (Setting draft.new)) result (symbol_of kind (named_draft names.now draft.old) (words_of line.now.text.now)) }
+    ensures said { Says (λ _. setting names.now draft.new) result (symbol_of kind (named_draft names.now draft.old) (words_of line.now.text.now)) }
+    ensures memory { result ≡ Err NoMemory → IsOk (symbol_of kind (named_draft names.now draft.old) (words_of line.now.text.now)) }
     ensures rules { draft.new.rules ≡ draft.old.rules }
+{
+    let (at, value) = read_value(names, line, kind, draft)?;
+    set_symbol(draft, at, value)?;
+    Ok(())
+}
+
+/// The symbol of a symbol line, which may be set, and its number.
+#[tactic(auto, unfolding(crate::specs::Reading::symbol_of))]
+fn read_value(
+    names: &Names,
+    line: &Line,
+    kind: Kind,
+    draft: &Draft<Cyclo>,
+) -> Result<(Symbol, Number), CategoryCause>
+    requires { length names.now ≡ draft.now.rules.count }
+    ensures said { Tells (λ read. with_value (named_draft names.now draft.now) read.0 read.1) result (symbol_of kind (named_draft names.now draft.now) (words_of line.now.text.now)) }
+    ensures below { IfOk result (λ read. SymbolBelow draft.now.rules.count read.0) }
+    ensures free { IfOk result (λ read. symbol_fault (given draft.now) read.0 ≡ None) }
+    ensures member { IfOk result (λ read. IsTrue ((ring_at draft.now.ring).member read.1)) }
 {
     let place = number_place(kind);
     sized(line, place + 1)?;
     let at = symbol_at(names, line, kind)?;
-    match read_number(draft.ring(), line.word_or_empty(place)) {
-        Ok(value) => set_symbol(draft, at, value),
-        Err(fault) => Err(refused_number(draft, at, fault)),
+    may_set(draft, &at)?;
+    let value = number(draft.ring(), line.word_or_empty(place))?;
+    Ok((at, value))
+}
+
+/// Whether a symbol of labels below the count may be set.
+fn may_set(draft: &Draft<Cyclo>, at: &Symbol) -> Result<(), CategoryCause>
+    requires { SymbolBelow draft.now.rules.count at.now }
+    ensures { result ≡ may_set (symbol_fault (given draft.now) at.now) }
+{
+    match fault_of(draft, at) {
+        None => Ok(()),
+        Some(SetFault::NotAdmissible) => Err(CategoryCause::NotAdmissible),
+        Some(_) => Err(CategoryCause::Repeated),
     }
 }
 
-/// What stops a line whose number is refused: a cause of its symbol, else the number. The draft of a refused text is
-/// given up.
-fn refused_number(draft: &mut Draft<Cyclo>, at: Symbol, fault: NumberWord) -> Stop
-    requires { SymbolBelow draft.old.rules.count at }
-    ensures stops { LineFails result (refused_by (given draft.old) at fault) }
-    ensures rules { draft.new.rules ≡ draft.old.rules }
+fn fault_of(draft: &Draft<Cyclo>, at: &Symbol) -> Option<SetFault>
+    requires { SymbolBelow draft.now.rules.count at.now }
+    ensures { result ≡ symbol_fault (given draft.now) at.now }
 {
-    let one = draft.ring().one();
-    match set_symbol(draft, at, one) {
-        Ok(()) => Stop::Cause(CategoryCause::Number(fault)),
-        Err(stop) => stop,
+    match at {
+        Symbol::OfF(at) => draft.f_fault(at),
+        Symbol::OfR(at) => draft.r_fault(at),
+        Symbol::OfW(at) => draft.w_fault(at),
+        Symbol::OfV(at) => draft.v_fault(at),
+    }
+}
+
+fn number(ring: &Cyclo, word: &[u8]) -> Result<Number, CategoryCause>
+    ensures number { result ≡ numbered (number_of ring.now word.now) }
+    ensures member { IfOk result (λ number. IsTrue ((ring_at ring.now).member number)) }
+{
+    match read_number(ring, word) {
+        Ok(number) => Ok(number),
+        Err(fault) => Err(CategoryCause::Number(fault)),
     }
 }
 
@@ -119,7 +158,7 @@ pub(crate) fn labels_at(names: &Names, line: &Line, place: usize) -> Result<VInd
     Ok(VIndex { a, b, c })
 }
 
-#[tactic(auto, using(crate::proofs::SymbolLemmas::label_below))]
+#[tactic(auto, using(fusion_rules::proofs::FoundLemmas::label_below))]
 fn label(names: &Names, word: &[u8]) -> Result<u8, CategoryCause>
     ensures label { result ≡ label names.now word.now }
     ensures below { IfOk result (λ a. a < length names.now) }
@@ -127,19 +166,18 @@ fn label(names: &Names, word: &[u8]) -> Result<u8, CategoryCause>
     names.number(word).ok_or(CategoryCause::UnknownLabel)
 }
 
-/// Sets a symbol. Refused, the draft is unchanged.
-fn set_symbol(draft: &mut Draft<Cyclo>, at: Symbol, value: Number) -> Result<(), Stop>
+/// Sets a symbol that may be set.
+fn set_symbol(draft: &mut Draft<Cyclo>, at: Symbol, value: Number) -> Result<(), AllocError>
     requires labels { SymbolBelow draft.old.rules.count at }
     requires member { IsTrue ((ring_at draft.old.ring).member value) }
-    ensures set { Says (λ _. given draft.new) result (set_by (given draft.old) at value) }
+    requires free { symbol_fault (given draft.old) at ≡ None }
+    ensures set { OnOk result (given draft.new ≡ with_symbol (given draft.old) at value) }
     ensures ring { draft.new.ring ≡ draft.old.ring }
     ensures rules { draft.new.rules ≡ draft.old.rules }
 {
     match set_value(draft, at, value) {
         Ok(()) => Ok(()),
-        Err(SetFault::NotAdmissible) => Err(Stop::Cause(CategoryCause::NotAdmissible)),
-        Err(SetFault::Repeated) => Err(Stop::Cause(CategoryCause::Repeated)),
-        Err(SetFault::Memory) => Err(Stop::NoMemory),
+        Err(_) => Err(AllocError),
     }
 }
 

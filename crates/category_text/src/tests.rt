@@ -1,27 +1,9 @@
 use crate::{CategoryCause, CategoryFault, read_category, write_category};
 use std::test::Fail;
 
-#[test]
-fn reads_fibonacci(rt: HostRuntime) -> Result<(), Fail> {
-    let text = b"category 1
-root 5
-labels 1 t
-fuse t t 1
-fuse t t t
-f t t t t 1 1 -1,0,-1,-1
-r t t 1 0,0,0,1
-w t t 1 -1,0,-1,-1
-v t t 1 0,0,-1,-1
-";
-    let named = read_category(rt.alloc(), text)?;
-    assert_eq!(rt; named.names.count(), 2);
-    assert_eq!(rt; named.draft.ring().root(), 5);
-    Ok(())
-}
-
 // The lines of each group in order, and no value that is 1.
 #[test]
-fn writes_fibonacci(rt: HostRuntime) -> Result<(), Fail> {
+fn reads_and_writes_fibonacci(rt: HostRuntime) -> Result<(), Fail> {
     let text = b"category 1
 root 5
 labels 1 t
@@ -46,6 +28,8 @@ w t t 1 -1,0,-1,-1
 v t t 1 0,0,-1,-1
 ";
     let named = read_category(rt.alloc(), text)?;
+    assert_eq!(rt; named.names.count(), 2);
+    assert_eq!(rt; named.draft.ring().root(), 5);
     let mut out = Vec::new(rt.alloc());
     write_category(rt.alloc(), &named, &mut out)?;
     assert!(rt; out.as_slice() == canonical.as_slice());

@@ -1,22 +1,23 @@
 ghost use Rattle.std.specs.Prelude.{◌≡◌, ◌<◌, ◌-◌, ◌^◌, ◌++◌, ◌∷◌, [], IsTrue, IfOk, OnOk, OnErr, length};
 ghost use Rattle.line_text.specs.Spelling.{spelled};
+ghost use Rattle.line_text.specs.Writing.{spaced_on};
 ghost use Rattle.poly_core.specs.Rho.{is_accepted};
 ghost use Rattle.cyclo_core.specs.Ratio.{is_held, ring_at};
 ghost use Rattle.cyclo_text.specs.NumberWords.{spelled_number};
 ghost use Rattle.fusion_rules.specs.Fusion.{AreRules, fuses};
-ghost use Rattle.fusion_rules.specs.Names.{AreNames};
+ghost use Rattle.fusion_rules.specs.Names.{AreNames, name_of};
 ghost use Rattle.symbol_table.specs.Index.{AreSixLabels, AreThreeLabels};
 ghost use Rattle.category_text.specs.Named.{seen};
-ghost use Rattle.category_text.specs.Canonical.{behind, canonical, f_words, head_lines, is_one, kind_word, name_of, vertex_value};
+ghost use Rattle.category_text.specs.Canonical.{behind, canonical, f_words, head_lines, is_one, kind_word, vertex_value};
 ghost use Rattle.category_text.specs.Again.{IsSaid, ReadAgain};
-ghost use Rattle.category_text.specs.Writing.{BehindNumber, FNumber, GroupBelow, GroupNumber, InPlane, InRow, InSpace, VertexNumber, behind_text, f_text, fuse_text, group_text, names_text, plane, row, space, vertex_text, written};
+ghost use Rattle.category_text.specs.Writing.{BehindNumber, FNumber, GroupBelow, GroupNumber, InPlane, InRow, InSpace, VertexNumber, behind_text, f_text, fuse_text, group_text, plane, row, space, vertex_text, written};
 
 use crate::kind::{Group, VertexKind};
 use crate::named::Named;
 use cyclo_core::{Cyclo, Number};
 use cyclo_text::write_number;
-use fusion_rules::Names;
-use itoa::Buffer;
+use fusion_rules::{Names, UNIT};
+use line_text::{end_line, write_line, write_plain_number, write_word};
 use ring_laws::StarRing;
 use std::alloc::{AllocError, Global};
 use symbol_table::{FIndex, VIndex};
@@ -59,21 +60,23 @@ fn write_head(named: &Named, text: &mut Vec<u8>) -> Result<(), AllocError>
     ensures names { OnOk result (AreNames named.now.names) }
     ensures accepted { OnOk result (IsTrue (is_accepted named.now.draft.ring)) }
 {
-    text.extend_from_slice(b"category 1\nroot ")?;
-    text.extend_from_slice(Buffer::new().format(named.draft.ring().root()).as_bytes())?;
-    text.extend_from_slice(b"\nlabels")?;
+    write_line(&["category", "1"], text)?;
+    text.extend_from_slice(b"root")?;
+    write_plain_number(u32::from(named.draft.ring().root()), text)?;
+    end_line(text)?;
+    text.extend_from_slice(b"labels")?;
     write_names(&named.names, text)?;
-    text.push(b'\n')?;
+    end_line(text)?;
     Ok(())
 }
 
 /// Appends all names, each behind a space.
 fn write_names(names: &Names, text: &mut Vec<u8>) -> Result<(), AllocError>
-    ensures text { OnOk result (text.new.items ≡ text.old.items ++ names_text names.now) }
+    ensures text { OnOk result (text.new.items ≡ text.old.items ++ spaced_on names.now) }
     ensures names { AreNames names.now }
 {
     for label in 0..names.count() {
-        write_word(names.name(label).as_bytes(), text)?;
+        write_word(names.name(label), text)?;
     }
     Ok(())
 }
@@ -175,13 +178,13 @@ fn write_row(
     ensures numbers { OnOk result (InRow named.now.draft.rules.count (GroupNumber (seen named.now) group) a b) }
 {
     for c in 0..named.names.count() {
-        write_line(alloc, named, group, VIndex { a, b, c }, text)?;
+        write_entry(alloc, named, group, VIndex { a, b, c }, text)?;
     }
     Ok(())
 }
 
 /// Appends the line of three labels, where they have one.
-fn write_line(
+fn write_entry(
     alloc: Global,
     named: &Named,
     group: Group,
@@ -207,12 +210,12 @@ fn write_fuse(named: &Named, at: VIndex, text: &mut Vec<u8>) -> Result<(), Alloc
     requires labels { AreThreeLabels named.now.draft.rules.count at.a at.b at.c }
     ensures { OnOk result (text.new.items ≡ text.old.items ++ fuse_text (seen named.now) at) }
 {
-    if at.a == 0 || at.b == 0 || !named.draft.rules().allows(at.a, at.b, at.c) {
+    if at.a == UNIT || at.b == UNIT || !named.draft.rules().allows(at.a, at.b, at.c) {
         return Ok(());
     }
     text.extend_from_slice(b"fuse")?;
     write_labels(&named.names, at, text)?;
-    text.push(b'\n')?;
+    end_line(text)?;
     Ok(())
 }
 
@@ -338,17 +341,10 @@ fn write_labels(names: &Names, at: VIndex, text: &mut Vec<u8>) -> Result<(), All
     requires { AreThreeLabels (length names.now) at.a at.b at.c }
     ensures { OnOk result (text.new.items ≡ text.old.items ++ 32 ∷ (name_of names.now at.a ++ 32 ∷ (name_of names.now at.b ++ 32 ∷ name_of names.now at.c))) }
 {
-    write_word(names.name(at.a).as_bytes(), text)?;
-    write_word(names.name(at.b).as_bytes(), text)?;
-    write_word(names.name(at.c).as_bytes(), text)
-}
-
-/// Appends a space and a word.
-fn write_word(word: &[u8], text: &mut Vec<u8>) -> Result<(), AllocError>
-    ensures { OnOk result (text.new.items ≡ text.old.items ++ 32 ∷ word.now) }
-{
-    text.push(b' ')?;
-    text.extend_from_slice(word)
+    write_word(names.name(at.a), text)?;
+    write_word(names.name(at.b), text)?;
+    write_word(names.name(at.c), text)?;
+    Ok(())
 }
 
 /// Appends a space, a number and the end of the line.
@@ -357,6 +353,6 @@ fn write_value(alloc: Global, value: &Number, text: &mut Vec<u8>) -> Result<(), 
 {
     text.push(b' ')?;
     write_number(alloc, value, text)?;
-    text.push(b'\n')?;
+    end_line(text)?;
     Ok(())
 }

@@ -4,3 +4,4 @@ pub mod NameLemmas
 pub mod PassLemmas
 pub mod UnitLemmas
 pub mod Worked
+pub mod FoundLemmas

@@ -7,6 +7,7 @@ use Rattle.std.proofs.lemmas.Bool.Decides.{nat_tests, same_from_decides, Decides
 use Rattle.std.proofs.lemmas.Slice.Eq.{bytes_eq-Decides}
 use Rattle.std.proofs.lemmas.List.{length_push, length-map}
 use Rattle.arrayvec.specs.ArrayString.{ArrayString}
+use Rattle.fusion_rules.specs.declared.label.TheConstants.{LABEL_LIMIT}
 use Rattle.fusion_rules.specs.Names.{is_name, is_name_byte, all_name_bytes, is_among, has_repeat, all_names, AreNames, label_of, name_fault}
 use Rattle.fusion_rules.specs.declared.names.NameFault.TheVariants.{Full, Repeated}
 use Rattle.fusion_rules.specs.Held.{texts}
@@ -74,7 +75,7 @@ repeat_push (n ∷ ns) name none new = rw (among_push ns n name, eq_comm n name)
     by_tests false true new repeat pushed none is more = absurd (cc)
     by_tests false false new repeat pushed none is more = more none is
 
-pub are_names_push : (names : List (List ℕ)) (name : List ℕ) → AreNames names → is_name name ≡ true → is_among names name ≡ false → length names ≢ 12 → AreNames (names ++ name ∷ [])
+pub are_names_push : (names : List (List ℕ)) (name : List ℕ) → AreNames names → is_name name ≡ true → is_among names name ≡ false → length names ≢ LABEL_LIMIT → AreNames (names ++ name ∷ [])
 are_names_push names name are is new room = record {
   few = omega (arith, length_push names name, are.few);
   spelled = names_push names name are.spelled is;
@@ -117,18 +118,18 @@ label_text q keys = ap (λ (n : ℕ). if ltb n (length keys) then Some n else No
     ∙ ap (λ (n : ℕ). if ltb (position_or_len (bytes_eq q) (texts keys)) n then Some (position_or_len (bytes_eq q) (texts keys)) else None) (sym (length-map keys (λ k. k.bytes)))
 
 -- what an insert says
-pub full : (keys : List ArrayString) (old : List (List ℕ)) (name : List ℕ) → texts keys ≡ old → is_name name ≡ true → length keys ≡ 12 → name_fault old name ≡ Some Full
+pub full : (keys : List ArrayString) (old : List (List ℕ)) (name : List ℕ) → texts keys ≡ old → is_name name ≡ true → length keys ≡ LABEL_LIMIT → name_fault old name ≡ Some Full
 full keys old name e is twelve =
-    let same : length old ≡ 12 = sym (ap length e) ∙ length-map keys (λ k. k.bytes) ∙ twelve in
-    let full : (length old == 12) ≡ true = grind (arith, nat_tests) in
+    let same : length old ≡ LABEL_LIMIT = sym (ap length e) ∙ length-map keys (λ k. k.bytes) ∙ twelve in
+    let full : (length old == LABEL_LIMIT) ≡ true = grind (arith, nat_tests) in
     rw (is, full) refl
 
-pub known : (keys new : List ArrayString) (small : ArrayString) (old : List (List ℕ)) (name : List ℕ) → texts keys ≡ old → small.bytes ≡ name → is_name name ≡ true → length keys ≢ 12
+pub known : (keys new : List ArrayString) (small : ArrayString) (old : List (List ℕ)) (name : List ℕ) → texts keys ≡ old → small.bytes ≡ name → is_name name ≡ true → length keys ≢ LABEL_LIMIT
     → list_any (λ k. bytes_eq small.bytes k.bytes) keys ≡ true → new ≡ (if list_any (λ k. bytes_eq small.bytes k.bytes) keys then keys else keys ++ small ∷ [])
     → (name_fault old name ≡ Some Repeated) × (texts new ≡ old)
 known keys new small old name e f is room any new_is =
     let same : length old ≡ length keys = sym (ap length e) ∙ length-map keys (λ k. k.bytes) in
-    let not_full : (length old == 12) ≡ false = grind (arith, nat_tests) in
+    let not_full : (length old == LABEL_LIMIT) ≡ false = grind (arith, nat_tests) in
     let among : is_among old name ≡ true = ap (λ l. is_among l name) (sym e) ∙ ap (λ q. is_among (texts keys) q) (sym f) ∙ sym (any_text small.bytes keys) ∙ any in
     let stays : new ≡ keys = new_is ∙ ap (λ b. if b then keys else keys ++ small ∷ []) any in
     (rw (is, not_full, among) refl, ap texts stays ∙ e)
@@ -138,12 +139,12 @@ pub record New (old : List (List ℕ)) (name : List ℕ) (new : List ArrayString
   pub grown : texts new ≡ old ++ name ∷ []
   pub names : AreNames (texts new)
 
-pub fresh : (keys new : List ArrayString) (small : ArrayString) (old : List (List ℕ)) (name : List ℕ) → texts keys ≡ old → small.bytes ≡ name → is_name name ≡ true → length keys ≢ 12
+pub fresh : (keys new : List ArrayString) (small : ArrayString) (old : List (List ℕ)) (name : List ℕ) → texts keys ≡ old → small.bytes ≡ name → is_name name ≡ true → length keys ≢ LABEL_LIMIT
     → AreNames (texts keys) → list_any (λ k. bytes_eq small.bytes k.bytes) keys ≡ false → new ≡ (if list_any (λ k. bytes_eq small.bytes k.bytes) keys then keys else keys ++ small ∷ [])
     → New old name new
 fresh keys new small old name e f is room are any new_is =
     let same : length old ≡ length keys = sym (ap length e) ∙ length-map keys (λ k. k.bytes) in
-    let not_full : (length old == 12) ≡ false = grind (arith, nat_tests) in
+    let not_full : (length old == LABEL_LIMIT) ≡ false = grind (arith, nat_tests) in
     let among : is_among old name ≡ false = ap (λ l. is_among l name) (sym e) ∙ ap (λ q. is_among (texts keys) q) (sym f) ∙ sym (any_text small.bytes keys) ∙ any in
     let grows : new ≡ keys ++ small ∷ [] = new_is ∙ ap (λ b. if b then keys else keys ++ small ∷ []) any in
     let new_texts : texts new ≡ old ++ name ∷ [] = ap texts grows ∙ texts_push keys small ∙ ap (λ l. l ++ small.bytes ∷ []) e ∙ ap (λ q. old ++ q ∷ []) f in

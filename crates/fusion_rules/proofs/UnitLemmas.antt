@@ -5,16 +5,17 @@ use Rattle.std.proofs.lemmas.Bool.{cases_eq}
 use Rattle.std.proofs.lemmas.Bool.Decides.{nat_tests}
 use Rattle.std.proofs.lemmas.List.{get_or-replicate, get_or-set_other, length-set}
 use Rattle.std.proofs.lemmas.Grind.{get_or-set_at}
+use Rattle.fusion_rules.specs.declared.label.TheConstants.{LABEL_LIMIT}
 use Rattle.fusion_rules.specs.Fusion.{AreRules, place, stands_at, is_unit_triple, are_labels}
 
-pub no_units : (size x y z : ℕ) → 1728 ≤ size → x < 12 → y < 12 → z < 12 → stands_at (replicate size false) x y z ≡ (nat_lt z 0 && is_unit_triple x y z)
+pub no_units : (size x y z : ℕ) → 1728 ≤ size → x < LABEL_LIMIT → y < LABEL_LIMIT → z < LABEL_LIMIT → stands_at (replicate size false) x y z ≡ (nat_lt z 0 && is_unit_triple x y z)
 no_units size x y z h hx hy hz = get_or-replicate size (place x y z) false false (omega arith) ∙ none_yet
   where
     none_yet : false ≡ (nat_lt z 0 && is_unit_triple x y z)
     none_yet = grind (arith, nat_tests)
 
 module _ (table : List Bool) (k x y z : ℕ) where
-  pub unit_more : length table ≡ 1728 → k < 12 → x < 12 → y < 12 → z < 12
+  pub unit_more : length table ≡ 1728 → k < LABEL_LIMIT → x < LABEL_LIMIT → y < LABEL_LIMIT → z < LABEL_LIMIT
       → stands_at table x y z ≡ (nat_lt z k && is_unit_triple x y z)
       → stands_at (slice_set (slice_set table (place 0 k k) true) (place k 0 k) true) x y z ≡ (nat_lt z (k + 1) && is_unit_triple x y z)
   unit_more long hk hx hy hz stood =
@@ -38,8 +39,8 @@ module _ (table : List Bool) (k x y z : ℕ) where
       neither_unit not_right not_left = grind (arith, nat_tests)
 
 -- the rules of the unit triples
-pub unit_rules : (n : ℕ) (table : List Bool) → 0 < n → n ≤ 12 → length table ≡ 1728
-    → ((a b c : ℕ) → a < 12 → b < 12 → c < 12 → stands_at table a b c ≡ (nat_lt c n && is_unit_triple a b c))
+pub unit_rules : (n : ℕ) (table : List Bool) → 0 < n → n ≤ LABEL_LIMIT → length table ≡ 1728
+    → ((a b c : ℕ) → a < LABEL_LIMIT → b < LABEL_LIMIT → c < LABEL_LIMIT → stands_at table a b c ≡ (nat_lt c n && is_unit_triple a b c))
     → AreRules (record { count = n; table = table })
 unit_rules n table some few whole stand = record {
   some = some;

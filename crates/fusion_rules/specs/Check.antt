@@ -1,6 +1,7 @@
 -- The conditions on the triples of a fusion category with single duals.
 use Rattle.std.specs.Prelude.{◌≡◌, ℕ, zero, suc, ◌+◌, ◌<◌, Bool, true, not, ◌&&◌, ◌==◌, if◌then◌else◌, Option, Some, None, unwrap_or}
 use Rattle.std.specs.Option.{option_or}
+use Rattle.fusion_rules.specs.declared.label.TheConstants.{UNIT}
 use Rattle.fusion_rules.specs.First.{first_below}
 use Rattle.fusion_rules.specs.declared.rules.RulesFault.{RulesFault}
 use Rattle.fusion_rules.specs.declared.rules.RulesFault.TheVariants.{NotCommutative, NotAssociative, NoSingleDual}
@@ -28,7 +29,7 @@ abbrev pub ways_fault : ℕ → (ℕ → ℕ → ℕ → Bool) → ℕ → ℕ �
 ways_fault n fuse a b c d = if ways_left n fuse a b c d == ways_right n fuse a b c d then None else Some (NotAssociative a b c d)
 
 abbrev pub dual_fault : ℕ → (ℕ → ℕ → ℕ → Bool) → ℕ → Option RulesFault
-dual_fault n fuse a = if count_below n (λ b. fuse a b 0) == 1 then None else Some (NoSingleDual a)
+dual_fault n fuse a = if count_below n (λ b. fuse a b UNIT) == 1 then None else Some (NoSingleDual a)
 
 -- the first a, b, c with N(a,b,c) unlike N(b,a,c)
 abbrev pub commutative_fault : ℕ → (ℕ → ℕ → ℕ → Bool) → Option RulesFault
@@ -49,12 +50,12 @@ rules_fault n fuse = option_or (commutative_fault n fuse) (option_or (associativ
 -- b is the dual of a: the one label with N(a,b,1)
 pub record IsDual (n : ℕ) (fuse : ℕ → ℕ → ℕ → Bool) (a b : ℕ) : Type 0 where
   pub label : b < n
-  pub fuses : fuse a b 0 ≡ true
-  pub single : (x : ℕ) → x < n → fuse a x 0 ≡ true → x ≡ b
+  pub fuses : fuse a b UNIT ≡ true
+  pub single : (x : ℕ) → x < n → fuse a x UNIT ≡ true → x ≡ b
 
 -- the first b with N(a,b,1), or the unit where there is none
 abbrev pub dual_of : ℕ → (ℕ → ℕ → ℕ → Bool) → ℕ → ℕ
-dual_of n fuse a = unwrap_or (first_below n (λ b. if fuse a b 0 then Some b else None)) 0
+dual_of n fuse a = unwrap_or (first_below n (λ b. if fuse a b UNIT then Some b else None)) UNIT
 
 -- The rules pass: they commute, they associate, and each label has a single dual.
 pub record RulesPass (n : ℕ) (fuse : ℕ → ℕ → ℕ → Bool) : Type 0 where

@@ -1,5 +1,6 @@
 -- Which labels fuse.
 use Rattle.std.specs.Prelude.{◌≡◌, ℕ, ◌+◌, ◌*◌, ◌<◌, ◌≤◌, Bool, true, false, ◌&&◌, ◌||◌, ◌==◌, nat_lt, List, length, slice_index_or, slice_set, if◌then◌else◌, Option, Some, None, Result, Ok, Err}
+use Rattle.fusion_rules.specs.declared.label.TheConstants.{LABEL_LIMIT, UNIT}
 use Rattle.fusion_rules.specs.declared.rules.RuleRefused.{RuleRefused}
 use Rattle.fusion_rules.specs.declared.rules.RuleRefused.TheVariants.{Unit as IsUnit, Repeated}
 
@@ -24,7 +25,7 @@ fuses g a b c = are_labels g.count a b c && stands_at g.table a b c
 
 -- the unit times a label is that label, on both sides
 abbrev pub is_unit_triple : ℕ → ℕ → ℕ → Bool
-is_unit_triple a b c = (a == 0 && b == c) || (b == 0 && a == c)
+is_unit_triple a b c = (a == UNIT && b == c) || (b == UNIT && a == c)
 
 -- the unit triples of n labels, and no others
 abbrev pub unit_fuses : ℕ → ℕ → ℕ → ℕ → Bool
@@ -34,11 +35,11 @@ unit_fuses n a b c = are_labels n a b c && is_unit_triple a b c
 -- table but at labels.
 pub record AreRules (g : Fusion) : Type 0 where
   pub some : 0 < g.count
-  pub few : g.count ≤ 12
+  pub few : g.count ≤ LABEL_LIMIT
   pub whole : length g.table ≡ 1728
-  pub left_unit : (b c : ℕ) → b < g.count → c < g.count → stands_at g.table 0 b c ≡ (b == c)
-  pub right_unit : (a c : ℕ) → a < g.count → c < g.count → stands_at g.table a 0 c ≡ (a == c)
-  pub outside : (a b c : ℕ) → a < 12 → b < 12 → c < 12 → are_labels g.count a b c ≡ false → stands_at g.table a b c ≡ false
+  pub left_unit : (b c : ℕ) → b < g.count → c < g.count → stands_at g.table UNIT b c ≡ (b == c)
+  pub right_unit : (a c : ℕ) → a < g.count → c < g.count → stands_at g.table a UNIT c ≡ (a == c)
+  pub outside : (a b c : ℕ) → a < LABEL_LIMIT → b < LABEL_LIMIT → c < LABEL_LIMIT → are_labels g.count a b c ≡ false → stands_at g.table a b c ≡ false
 
 -- one triple more
 abbrev pub with_triple : Fusion → ℕ → ℕ → ℕ → Fusion
@@ -55,7 +56,7 @@ pub record AddsTriple (old new : Fusion) (a b c : ℕ) : Type 0 where
 
 -- why a triple isn't added: first the unit, then a triple that is there
 abbrev pub rule_refused : Fusion → ℕ → ℕ → ℕ → Option RuleRefused
-rule_refused g a b c = if a == 0 || b == 0 then Some IsUnit else (if fuses g a b c then Some Repeated else None)
+rule_refused g a b c = if a == UNIT || b == UNIT then Some IsUnit else (if fuses g a b c then Some Repeated else None)
 
 -- what adding a triple answers, and what the rules are then: unchanged after a refusal
 abbrev pub Allowed : {A : Type 0} → Result A RuleRefused → Fusion → Fusion → ℕ → ℕ → ℕ → Type 0

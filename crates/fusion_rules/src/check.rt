@@ -3,6 +3,7 @@ ghost use Rattle.fusion_rules.specs.First.{Answers, first_below};
 ghost use Rattle.fusion_rules.specs.Fusion.{fuses};
 ghost use Rattle.fusion_rules.specs.Check.{associative_fault, commutative_fault, count_below, dual_fault, mirror_fault, rules_fault, single_dual_fault, ways_fault, ways_left, ways_right};
 
+use crate::label::UNIT;
 use crate::rules::{Rules, RulesFault};
 
 /// The first fault of the rules: of commuting, else of associating, else of duals.
@@ -153,11 +154,11 @@ fn have_duals(rules: &Rules) -> Result<(), RulesFault>
 #[tactic(auto, using(crate::proofs::CountLemmas::count_more, crate::proofs::CountLemmas::count_few))]
 fn count_duals(rules: &Rules, a: u8) -> u8
     requires { a < rules.now.count }
-    ensures { result ≡ count_below rules.now.count (λ b. fuses rules.now a b 0) }
+    ensures { result ≡ count_below rules.now.count (λ b. fuses rules.now a b UNIT) }
 {
     let mut duals = 0;
     for b in 0..rules.count() {
-        if rules.allows(a, b, 0) {
+        if rules.allows(a, b, UNIT) {
             duals += 1;
         }
     }

@@ -1,7 +1,7 @@
 //! The labels of a fusion category, and which of them fuse.
 //!
 //! Glossary:
-//! - *label*: the number of a simple object; label 0 is the unit.
+//! - *label*: the number of a simple object, below 12; label 0 is the unit (`LABEL_LIMIT`, `UNIT`).
 //! - *names*: the names of the labels, in the order of their numbers (`specs/Names.antt`).
 //! - *triple*: labels a, b, c such that c occurs in a times b, written N(a,b,c) (`specs/Fusion.antt`).
 //! - *fusion*: the count of labels and the triples, as contracts see a `Rules` (`specs/Fusion.antt`).
@@ -14,9 +14,11 @@
 #![tactic(auto)]
 
 mod check;
+mod label;
 mod name;
 mod names;
 mod rules;
 
+pub use label::{LABEL_LIMIT, UNIT};
 pub use names::{NameFault, Names};
 pub use rules::{RuleRefused, Rules, RulesFault};

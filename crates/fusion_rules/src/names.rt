@@ -1,15 +1,13 @@
-ghost use Rattle.std.specs.Prelude.{◌≡◌, ◌<◌, ◌≤◌, ◌++◌, ◌∷◌, [], ℕ, List, length, map, position, slice_index_or};
+ghost use Rattle.std.specs.Prelude.{◌≡◌, ◌<◌, ◌≤◌, ◌++◌, ◌∷◌, [], ℕ, List, length, map, position};
 ghost use Rattle.std.specs.Str.{bytes_eq};
-ghost use Rattle.fusion_rules.specs.Names.{AreNames, added, label_of};
+ghost use Rattle.fusion_rules.specs.Names.{AreNames, added, label_of, name_of};
 
+use crate::label::LABEL_LIMIT;
 use crate::name::small_name;
 use arrayvec::ArrayString;
 use indexmap::IndexSet;
 use std::alloc::Global;
 use std::marker::Model;
-
-/// The most names.
-const LIMIT: usize = 12;
 
 /// Why a name isn't added.
 #[derive(Clone, Copy, Debug, PartialEq, Eq)]
@@ -63,7 +61,7 @@ impl Names {
         let Some(small) = small_name(name) else {
             return Err(NameFault::Spelling);
         };
-        if self.set.len() == LIMIT {
+        if self.set.len() == LABEL_LIMIT {
             return Err(NameFault::Full);
         }
         let Ok((index, is_new)) = self.set.insert_full(small) else {
@@ -88,9 +86,20 @@ impl Names {
     /// The name of a label below the count.
     pub fn name(&self, label: u8) -> &str
         requires { label < length self.now }
-        ensures { result.now ≡ slice_index_or self.now label [] }
+        ensures { result.now ≡ name_of self.now label }
     {
         self.set.as_slice()[label as usize].as_str()
+    }
+
+    /// The name of a label, or no bytes for a number that is none.
+    pub fn name_or_empty(&self, label: u8) -> &str
+        ensures { result.now ≡ name_of self.now label }
+    {
+        if label < self.count() {
+            self.name(label)
+        } else {
+            ""
+        }
     }
 
     /// How many names there are: at most twelve.
@@ -119,6 +128,7 @@ mod tests {
         assert_eq!(rt; names.number(b"tau"), None);
         assert_eq!(rt; names.count(), 2);
         assert_eq!(rt; names.name(1), "tau_2");
+        assert_eq!(rt; names.name_or_empty(2), "");
         Ok(())
     }
 }

@@ -4,12 +4,10 @@ ghost use Rattle.fusion_rules.specs.First.{Answers};
 ghost use Rattle.fusion_rules.specs.Check.{IsDual, RulesPass, dual_of, rules_fault};
 
 use crate::check::first_fault;
+use crate::label::{LABEL_LIMIT, UNIT};
 use std::marker::Model;
 
-/// The most labels that rules may have.
-const LIMIT: usize = 12;
-
-/// One truth value for each triple of label numbers below [`LIMIT`].
+/// One truth value for each triple of label numbers below [`LABEL_LIMIT`].
 const PLACES: usize = 1728;
 
 /// Why a triple isn't added to rules.
@@ -53,27 +51,27 @@ impl Model for Rules {
 }
 
 fn place(a: u8, b: u8, c: u8) -> usize
-    requires first { a < 12 }
-    requires second { b < 12 }
-    requires third { c < 12 }
+    requires first { a < LABEL_LIMIT }
+    requires second { b < LABEL_LIMIT }
+    requires third { c < LABEL_LIMIT }
     ensures value { result ≡ place a b c }
     ensures inside { result < 1728 }
 {
-    (a as usize * LIMIT + b as usize) * LIMIT + c as usize
+    (a as usize * LABEL_LIMIT + b as usize) * LABEL_LIMIT + c as usize
 }
 
 impl Rules {
     /// The rules of 1 to 12 labels that have the unit triples and no others.
     pub fn new(count: u8) -> Rules
         requires some { 0 < count }
-        requires few { count ≤ 12 }
+        requires few { count ≤ LABEL_LIMIT }
         ensures count { result.count ≡ count }
         ensures triples { (a b c : ℕ) → fuses result a b c ≡ unit_fuses count a b c }
     {
         let mut table = [false; PLACES];
         for a in 0..count {
-            table[place(0, a, a)] = true;
-            table[place(a, 0, a)] = true;
+            table[place(UNIT, a, a)] = true;
+            table[place(a, UNIT, a)] = true;
         }
         Rules { count, table }
     }
@@ -90,7 +88,7 @@ impl Rules {
         ensures triples { OnOk result (AddsTriple self.old self.new a b c) }
     {
         let _ = &self.count;
-        if a == 0 || b == 0 {
+        if a == UNIT || b == UNIT {
             return Err(RuleRefused::Unit);
         }
         let at = place(a, b, c);
@@ -141,7 +139,7 @@ impl Rules {
         ensures dual { IsDual self.now.count (fuses self.now) a result }
     {
         for b in 0..self.count() {
-            if self.allows(a, b, 0) {
+            if self.allows(a, b, UNIT) {
                 return b;
             }
         }

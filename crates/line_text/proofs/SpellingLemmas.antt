@@ -3,6 +3,7 @@ use Rattle.std.proofs.Common.{◌≡◌, ℕ, suc, ◌+◌, ◌<◌, ◌≤◌, 
 use Rattle.std.specs.List.{onto_first}
 use Rattle.std.proofs.lemmas.Bool.Decides.{nat_tests}
 use Rattle.std.proofs.lemmas.List.{append-nil}
+use Rattle.line_text.specs.declared.line.TheConstants.{LINE_LIMIT}
 use Rattle.line_text.specs.Text.{is_byte, parts_of, lines_of, words_of, not_empty, all_printable, first_cause, is_skipped, skips, found_in, found_by, Counted}
 use Rattle.line_text.specs.declared.fault.LineCause.{LineCause}
 use Rattle.line_text.specs.Spelling.{spaced, spelled, plain_bytes, is_plain_word, all_plain, ArePlainLines, counted}
@@ -104,7 +105,7 @@ found_again passed [] are = refl
 found_again passed (ws ∷ ls) are =
     let line = are.0 in
     let split : lines_of (spelled (ws ∷ ls)) ≡ spaced ws ∷ lines_of (spelled ls) = part_ends 10 (spaced ws) (spelled ls) (no_end ws line.plain) in
-    let long : ltb 1024 (length (spaced ws)) ≡ false = grind (arith, nat_tests) in
+    let long : ltb LINE_LIMIT (length (spaced ws)) ≡ false = grind (arith, nat_tests) in
     let cause : first_cause (spaced ws) ≡ None = rw (long, printable ws line.plain) refl in
     let skipped : is_skipped (spaced ws) ≡ false = ap skips (words_again ws line.plain) ∙ line.counts in
     ap (found_in passed) split

@@ -1,3 +1,4 @@
 pub mod Text
 pub mod Spelling
 pub mod Plain
+pub mod Writing

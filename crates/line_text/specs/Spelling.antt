@@ -1,5 +1,6 @@
 -- The one spelling of lines that are given as words.
 use Rattle.std.specs.Prelude.{◌≡◌, ℕ, ◌+◌, ◌≤◌, List, [], ◌∷◌, ◌++◌, Bool, true, false, ◌&&◌, nat_lt, length, if◌then◌else◌}
+use Rattle.line_text.specs.declared.line.TheConstants.{LINE_LIMIT}
 use Rattle.line_text.specs.Text.{Found, Counted, skips, found_in, lines_of, words_of}
 
 -- words with one space between two
@@ -31,7 +32,7 @@ all_plain (word ∷ words) = is_plain_word word && all_plain words
 pub record IsPlainLine (words : List (List ℕ)) : Type 0 where
   pub plain : all_plain words ≡ true
   pub counts : skips words ≡ false
-  pub short : length (spaced words) ≤ 1024
+  pub short : length (spaced words) ≤ LINE_LIMIT
 
 abbrev pub ArePlainLines : List (List (List ℕ)) → Type 0
 ArePlainLines [] = Unit {0}

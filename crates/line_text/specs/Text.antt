@@ -2,6 +2,7 @@
 use Rattle.std.specs.Prelude.{◌≡◌, ℕ, ◌+◌, List, [], ◌∷◌, Bool, true, false, ◌==◌, nat_lt, length, slice_index, slice_index_or, if◌then◌else◌, Option, Some, None, Result, Ok, Err}
 use Rattle.std.specs.List.{onto_first}
 use Rattle.std.specs.Str.{bytes_eq}
+use Rattle.line_text.specs.declared.line.TheConstants.{LINE_LIMIT}
 use Rattle.line_text.specs.declared.fault.LineCause.{LineCause}
 use Rattle.line_text.specs.declared.fault.LineCause.TheVariants.{TooLong, NotAscii}
 use Rattle.line_text.specs.declared.fault.LineFault.{LineFault}
@@ -49,7 +50,7 @@ all_printable (c ∷ cs) = if nat_lt c 32 then false else (if nat_lt 126 c then 
 
 -- why a line can't be read
 abbrev pub first_cause : List ℕ → Option LineCause
-first_cause line = if nat_lt 1024 (length line) then Some TooLong else (if all_printable line then None else Some NotAscii)
+first_cause line = if nat_lt LINE_LIMIT (length line) then Some TooLong else (if all_printable line then None else Some NotAscii)
 
 -- whether words make no line that counts: there is none, or the first begins with `#`
 abbrev pub skips : List (List ℕ) → Bool

@@ -1,7 +1,7 @@
 /// Why a line can't be read.
 #[derive(Clone, Copy, Debug, PartialEq, Eq)]
 pub enum LineCause {
-    /// It has more than 1,024 bytes without its end.
+    /// It has more than [`LINE_LIMIT`](crate::LINE_LIMIT) bytes without its end.
     TooLong,
     /// It isn't too long, and has a byte outside 0x20 to 0x7E.
     NotAscii,

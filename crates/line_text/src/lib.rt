@@ -8,6 +8,8 @@
 //! - *skipped line*: one without a word, or whose first word begins with `#`. It is counted, and never given (`skips`).
 //! - *what is ahead*: the lines that a reader will find, up to the first that can't be read (`Found`, `Reading`).
 //! - *spelled lines*: the one way to write lines that are given as words (`specs/Spelling.antt`).
+//! - *writers*: what appends words, numbers and lines to bytes, and leaves the bytes as they were where memory is wanting
+//!   (`specs/Writing.antt`, `Appends`).
 //! - *plain number*: `0`, or a digit from 1 to 9 and further digits, nine digits at most (`specs/Plain.antt`).
 #![tactic(auto)]
 
@@ -17,12 +19,14 @@ mod line;
 mod lines;
 mod number;
 mod parts;
+mod writing;
 
 pub use fault::{LineCause, LineFault};
 pub use laws::spelled_lines;
-pub use line::Line;
+pub use line::{LINE_LIMIT, Line};
 pub use lines::Lines;
 pub use number::plain_number;
+pub use writing::{cut_back, end_line, write_line, write_plain_number, write_word, write_words};
 
 #[cfg(test)]
 mod tests;

@@ -2,8 +2,7 @@ ghost use Rattle.std.specs.Prelude.{◌≡◌, ◌<◌, ◌≤◌, ◌∷◌, []
 ghost use Rattle.line_text.specs.Text.{is_byte, parts_of, words_of, all_printable, first_cause, is_skipped};
 
 use crate::fault::LineCause;
-
-const LINE_LIMIT: usize = 1024;
+use crate::line::LINE_LIMIT;
 
 /// What stands before the first such byte, and behind it.
 pub(crate) fn split_part(text: &[u8], at: u8) -> Option<(&[u8], &[u8])>

@@ -1,4 +1,7 @@
-use crate::{LineCause, LineFault, Lines, plain_number};
+use crate::{
+    LineCause, LineFault, Lines, cut_back, end_line, plain_number, write_line, write_plain_number,
+    write_word, write_words,
+};
 use std::test::Fail;
 
 #[test]
@@ -26,4 +29,18 @@ fn reads_plain_numbers(rt: HostRuntime) {
     assert_eq!(rt; plain_number(b"1000000000"), None);
     assert_eq!(rt; plain_number(b"+1"), None);
     assert_eq!(rt; plain_number(b""), None);
+}
+
+#[test]
+fn writes_lines(rt: HostRuntime) -> Result<(), Fail> {
+    let mut out = Vec::new(rt.alloc());
+    write_line(&["root", "5"], &mut out)?;
+    write_words(&["", "a"], &mut out)?;
+    write_word("b", &mut out)?;
+    let begun = out.len();
+    let written = write_plain_number(12, &mut out);
+    cut_back(written, begun, &mut out)?;
+    end_line(&mut out)?;
+    assert!(rt; out.as_slice() == b"root 5\n  a b 12\n".as_slice());
+    Ok(())
 }

@@ -102,6 +102,19 @@ module _ {E : Type 0} (c : Symbols E) (basic : HasZero c.ring) (proper : IsPrope
   marked : (a b : Bool) → a ≡ b → mark c a ≡ mark c b
   marked a b e = ap (mark c) e
 
+  -- two matrices that are inverse at the allowed places, and zero elsewhere, at all places
+  inverse_all : (ok : ℕ → Bool) (X Y : ℕ → ℕ → E) (e g : ℕ) → ((f : ℕ) → ok e ≡ false → X e f ≡ c.ring.zero) → ((f : ℕ) → ok g ≡ false → Y f g ≡ c.ring.zero)
+      → (ok e ≡ true → ok g ≡ true → total c.ring n (λ f. x (X e f) (Y f g)) ≡ mark c (e == g))
+      → total c.ring n (λ f. x (X e f) (Y f g)) ≡ mark c (g == e && ok g)
+  inverse_all ok X Y e g x_off y_off on =
+      elim (true_or_false (ok e)) [
+        | inr off ↦ total_none n _ (λ f. left_none _ _ (x_off f off)) ∙ sym (marked _ false (and_off ok g e off))
+        | inl at_e ↦ elim (true_or_false (ok g)) [
+          | inr off ↦ total_none n _ (λ f. right_none _ _ (y_off f off)) ∙ sym (marked _ false (and_right (g == e) _ off))
+          | inl at_g ↦ on at_e at_g ∙ marked _ _ (same_test e g ∙ sym (ap (λ y. g == e && y) at_g ∙ and_true (g == e)))
+        ]
+      ]
+
   inverse_f_at : (a b m d e g : ℕ) → goes_left c a b m d e ≡ true → goes_left c a b m d g ≡ true
       → total c.ring n (λ f. x (c.f a b m d e f) (c.h a b m d f g)) ≡ mark c (e == g)
   inverse_f_at a b m d e g on at_g =
@@ -113,18 +126,6 @@ module _ {E : Type 0} (c : Symbols E) (basic : HasZero c.ring) (proper : IsPrope
       (All-from_recursion (λ t. t < n) (a ∷ b ∷ m ∷ d ∷ e ∷ g ∷ []) (low.0, (low.1, (last.1, (last.2, (low.2, ((proper.labels a b g right.0).2, tt)))))))
       (rw (left.0, left.1, right.0, right.1) refl)
 
-  -- F times H
-  pub inverse_f_all : (a b m d e g : ℕ)
-      → total c.ring n (λ f. x (c.f a b m d e f) (c.h a b m d f g)) ≡ mark c (g == e && goes_left c a b m d g)
-  inverse_f_all a b m d e g =
-      elim (true_or_false (goes_left c a b m d e)) [
-        | inr off ↦ total_none n _ (λ f. left_none _ _ (f_left a b m d e f off)) ∙ sym (marked _ false (and_off (goes_left c a b m d) g e off))
-        | inl on ↦ elim (true_or_false (goes_left c a b m d g)) [
-          | inr off ↦ total_none n _ (λ f. right_none _ _ (h_left a b m d f g off)) ∙ sym (marked _ false (and_right (g == e) _ off))
-          | inl at_g ↦ inverse_f_at a b m d e g on at_g ∙ marked _ _ (same_test e g ∙ sym (ap (λ y. g == e && y) at_g ∙ and_true (g == e)))
-        ]
-      ]
-
   inverse_h_at : (a b m d f g : ℕ) → goes_right c a b m d f ≡ true → goes_right c a b m d g ≡ true
       → total c.ring n (λ e. x (c.h a b m d f e) (c.f a b m d e g)) ≡ mark c (f == g)
   inverse_h_at a b m d f g on at_g =
@@ -135,18 +136,6 @@ module _ {E : Type 0} (c : Symbols E) (basic : HasZero c.ring) (proper : IsPrope
       obeys c lawful InverseH (a ∷ b ∷ m ∷ d ∷ f ∷ g ∷ []) refl
       (All-from_recursion (λ t. t < n) (a ∷ b ∷ m ∷ d ∷ f ∷ g ∷ []) (last.0, (low.0, (low.1, (last.2, (low.2, ((proper.labels b m g right.0).2, tt)))))))
       (rw (left.0, left.1, right.0, right.1) refl)
-
-  -- H times F
-  pub inverse_h_all : (a b m d f g : ℕ)
-      → total c.ring n (λ e. x (c.h a b m d f e) (c.f a b m d e g)) ≡ mark c (g == f && goes_right c a b m d g)
-  inverse_h_all a b m d f g =
-      elim (true_or_false (goes_right c a b m d f)) [
-        | inr off ↦ total_none n _ (λ e. left_none _ _ (h_right a b m d f e off)) ∙ sym (marked _ false (and_off (goes_right c a b m d) g f off))
-        | inl on ↦ elim (true_or_false (goes_right c a b m d g)) [
-          | inr off ↦ total_none n _ (λ e. right_none _ _ (f_right a b m d e g off)) ∙ sym (marked _ false (and_right (g == f) _ off))
-          | inl at_g ↦ inverse_h_at a b m d f g on at_g ∙ marked _ _ (same_test f g ∙ sym (ap (λ y. g == f && y) at_g ∙ and_true (g == f)))
-        ]
-      ]
 
   pentagon_at : (p l m r u y z f q : ℕ) → c.fuse p l u ≡ true → c.fuse u m y ≡ true → c.fuse y r z ≡ true → c.fuse m r f ≡ true → c.fuse l f q ≡ true → c.fuse p q z ≡ true
       → Holds c.ring (pentagon_says c p l m r u y z f q)
@@ -210,8 +199,8 @@ module _ {E : Type 0} (c : Symbols E) (basic : HasZero c.ring) (proper : IsPrope
   -- every equation at all labels
   pub has_equations : HasEquations c
   has_equations = record {
-    inverse_f = inverse_f_all;
-    inverse_h = inverse_h_all;
+    inverse_f = λ a b m d e g. inverse_all (goes_left c a b m d) (c.f a b m d) (c.h a b m d) e g (λ f. f_left a b m d e f) (λ f. h_left a b m d f g) (inverse_f_at a b m d e g);
+    inverse_h = λ a b m d f g. inverse_all (goes_right c a b m d) (c.h a b m d) (c.f a b m d) f g (λ e. h_right a b m d f e) (λ e. f_right a b m d e g) (inverse_h_at a b m d f g);
     pentagon = pentagon_all;
     hexagon_one = hexagon_all c.r proper.r_off (λ a b m d e f abe emd maf bfd.
         obeys c lawful HexagonOne (a ∷ b ∷ m ∷ d ∷ e ∷ f ∷ []) refl (hexagon_labels a b m d e f abe emd maf) (rw (abe, emd, maf, bfd) refl));

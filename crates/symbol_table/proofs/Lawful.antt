@@ -16,7 +16,7 @@ both : (a b : Bool) → IsTrue (a && b) → IsTrue a × IsTrue b
 both true b h = (refl, h)
 both false b h = absurd (true≢false (sym h))
 
-equal_sound : (x y : Whole5) → held5.equal x y ≡ true → x ≡ y
+pub equal_sound : (x y : Whole5) → held5.equal x y ≡ true → x ≡ y
 equal_sound x y h =
     let one = both (int_equal x.c0 y.c0) (int_equal x.c1 y.c1 && (int_equal x.c2 y.c2 && int_equal x.c3 y.c3)) h in
     let two = both (int_equal x.c1 y.c1) (int_equal x.c2 y.c2 && int_equal x.c3 y.c3) one.1 in

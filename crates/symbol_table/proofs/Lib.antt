@@ -3,9 +3,11 @@ pub mod Fib
 pub mod LawLemmas
 pub mod Lawful
 pub mod MemberLemmas
+pub mod Numbered
 pub mod Proper
 pub mod RuleLemmas
 pub mod SameLemmas
 pub mod Tested
 pub mod Weighted
+pub mod Witness
 pub mod Worked

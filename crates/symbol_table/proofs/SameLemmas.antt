@@ -56,6 +56,6 @@ on_ok (Err e) h p = p
 pub members_kept : {K E A : Type 0} (ring : Ring E) (cmp : K → K → Ordering) (r : Result A SetFault) (fault : Option SetFault) (old new : List (K × E)) (at : K) (value : E)
     → Sets r fault old new (insert_entry cmp old at value) → AreMembers ring old → IsTrue (ring.member value) → AreMembers ring new
 members_kept ring cmp (Ok x) fault old new at value told are is = rw told.1 (All-values-insert_entry cmp at value (λ x. IsTrue (ring.member x)) old are is)
-members_kept ring cmp (Err Memory) fault old new at value told are is = rw told are
+members_kept ring cmp (Err Memory) fault old new at value told are is = rw told.1 are
 members_kept ring cmp (Err NotAdmissible) fault old new at value told are is = rw told.1 are
 members_kept ring cmp (Err Repeated) fault old new at value told are is = rw told.1 are

@@ -44,7 +44,8 @@ below_at (suc n) test h t lt =
       | inr other ↦ below_at n test parts.1 t (omega arith)
     ]
 
-over_at : (n : ℕ) (test : List ℕ → Bool) (index rest : List ℕ) → all_over n (length rest) test index ≡ true → All (λ t. t < n) rest → test (index ++ rest) ≡ true
+-- a test that was tried at every index
+pub over_at : (n : ℕ) (test : List ℕ → Bool) (index rest : List ℕ) → all_over n (length rest) test index ≡ true → All (λ t. t < n) rest → test (index ++ rest) ≡ true
 over_at n test index [] h below = ap test (append-nil index) ∙ h
 over_at n test index (t ∷ rest) h below =
     ap test (sym (append_assoc index (t ∷ []) rest))

@@ -15,11 +15,11 @@ use Rattle.symbol_table.specs.Derived.{DerivedValue, HoldsSymbols}
 use Rattle.symbol_table.specs.declared.draft.SetFault.TheVariants.{NotAdmissible, Repeated}
 
 -- whole numbers whose conjugate is the negative, so that a conjugate shows
-abbrev turned_ring : Ring ℤ
+abbrev pub turned_ring : Ring ℤ
 turned_ring = record whole_ring { conjugate = neg_ℤ }
 
 -- all labels fuse, and each symbol is another number: 1abcdef, 2abc, 3abc, 4abc in digits
-abbrev numbered : Given ℤ
+abbrev pub numbered : Given ℤ
 numbered = record {
   version = 1;
   count = 7;
@@ -146,7 +146,7 @@ unit_draft = record { version = 1; ring = 0; rules = one_label; set_f = []; set_
 abbrev pub unit_derived : DerivedValue ℤ
 unit_derived = record { put_h = (f_index 0 0 0 0 0 0, pos 1) ∷ []; put_s = (v_index 0 0 0, pos 1) ∷ [] }
 
-one_only : (a b c : ℕ) → fuses one_label a b c ≡ true → (a ≡ 0) × (b ≡ 0) × (c ≡ 0)
+pub one_only : (a b c : ℕ) → fuses one_label a b c ≡ true → (a ≡ 0) × (b ≡ 0) × (c ≡ 0)
 one_only a b c h = grind (arith, nat_tests)
 
 four_parts : (x y z u : Bool) → (x && (y && (z && u))) ≡ true → (x ≡ true) × (y ≡ true) × (u ≡ true)

@@ -76,10 +76,11 @@ f_fault g at = set_fault (f_index_admissible g at) (g.set_f at.a at.b at.c at.d 
 abbrev pub vertex_fault : {E : Type 0} → Given E → (ℕ → ℕ → ℕ → Option E) → VIndex → Option SetFault
 vertex_fault g values at = set_fault (g.fuse at.a at.b at.c) (values at.a at.b at.c)
 
--- what a setter answers, and what is there then: the old after a refusal, and after want of memory
+-- what a setter answers, and what is there then: the old after a refusal, and after want of memory, which comes only where
+-- the value may be set
 abbrev pub Sets : {A D : Type 0} → Result A SetFault → Option SetFault → D → D → D → Type 0
 Sets (Ok _) fault old new wanted = (fault ≡ None) × (new ≡ wanted)
-Sets (Err Memory) fault old new wanted = new ≡ old
+Sets (Err Memory) fault old new wanted = (fault ≡ None) × (new ≡ old)
 Sets (Err cause) fault old new wanted = (fault ≡ Some cause) × (new ≡ old)
 
 -- the new values are the old with this one set

@@ -6,7 +6,7 @@ ghost use Rattle.symbol_table.specs.Category.{symbols};
 ghost use Rattle.symbol_table.specs.Draft.{DraftValue, IsMember, IsOver, Sets, SetsF, SetsVertex, f_fault, f_index_admissible, given, vertex_fault, with_f, with_r, with_v, with_w};
 
 use crate::index::{FIndex, VIndex};
-use crate::values::{set_value, value_or_one};
+use crate::values::{fault_at, set_value, value_or_one};
 use fusion_rules::Rules;
 use ring_laws::StarRing;
 use std::alloc::Global;
@@ -207,6 +207,39 @@ impl<R: StarRing> Draft<R> {
             return Err(SetFault::NotAdmissible);
         }
         set_value(&mut self.v, at, value)
+    }
+
+    /// Why F isn't set at an index of labels below the count: `NotAdmissible` where the index isn't admissible, else
+    /// `Repeated` where it was set before. None where it may be set.
+    pub fn f_fault(&self, at: &FIndex) -> Option<SetFault>
+        requires labels { AreSixLabels self.now.rules.count at.now.a at.now.b at.now.c at.now.d at.now.e at.now.f }
+        ensures { result ≡ f_fault (given self.now) at.now }
+    {
+        fault_at(at.is_admissible(&self.rules), self.f.contains_key(at))
+    }
+
+    /// The same of R, at three labels below the count.
+    pub fn r_fault(&self, at: &VIndex) -> Option<SetFault>
+        requires labels { AreThreeLabels self.now.rules.count at.now.a at.now.b at.now.c }
+        ensures { result ≡ vertex_fault (given self.now) (given self.now).set_r at.now }
+    {
+        fault_at(self.rules.allows(at.a, at.b, at.c), self.r.contains_key(at))
+    }
+
+    /// The same of the weight w, at three labels below the count.
+    pub fn w_fault(&self, at: &VIndex) -> Option<SetFault>
+        requires labels { AreThreeLabels self.now.rules.count at.now.a at.now.b at.now.c }
+        ensures { result ≡ vertex_fault (given self.now) (given self.now).set_w at.now }
+    {
+        fault_at(self.rules.allows(at.a, at.b, at.c), self.w.contains_key(at))
+    }
+
+    /// The same of the inverse weight v, at three labels below the count.
+    pub fn v_fault(&self, at: &VIndex) -> Option<SetFault>
+        requires labels { AreThreeLabels self.now.rules.count at.now.a at.now.b at.now.c }
+        ensures { result ≡ vertex_fault (given self.now) (given self.now).set_v at.now }
+    {
+        fault_at(self.rules.allows(at.a, at.b, at.c), self.v.contains_key(at))
     }
 
     /// F(a,b,c,d;e,f) at any six labels below the count: 0 where they aren't admissible.

@@ -39,6 +39,7 @@ fn drafted(alloc: Global) -> Result<Draft<Whole>, Fail>
 #[test]
 fn set_and_read(rt: HostRuntime) -> Result<(), Fail> {
     let draft = drafted(rt.alloc())?;
+    assert_eq!(rt; draft.version(), 1);
     assert_eq!(rt; draft.f_at(1, 1, 1, 1, 0, 1).get(), 7);
     assert_eq!(rt; draft.f_at(1, 1, 1, 1, 1, 0).get(), 1);
     assert_eq!(rt; draft.f_at(0, 1, 1, 1, 0, 1).get(), 0);

@@ -1,12 +1,26 @@
-ghost use Rattle.std.specs.Prelude.{◌≡◌, IsTrue, Option, Some, true, unwrap_or, IsSomeAnd, OnOk, OnErr};
+ghost use Rattle.std.specs.Prelude.{◌≡◌, IsTrue, Option, Some, None, true, unwrap_or, IsSomeAnd, OnOk, OnErr, if◌then◌else◌};
 ghost use Rattle.std.specs.Option.{ForSome, option_copied};
 ghost use Rattle.std.specs.BTreeMap.{Updates, get, insert_entry};
 ghost use Rattle.symbol_table.specs.Draft.{Sets, set_fault};
+ghost use Rattle.symbol_table.specs.declared.draft.SetFault.TheVariants.{NotAdmissible, Repeated};
 
 use crate::draft::SetFault;
 use ring_laws::StarRing;
 use std::alloc::AllocError;
 use std::collections::BTreeMap;
+
+/// Why a value isn't set, where one was set before or not.
+pub(crate) fn fault_at(admissible: bool, is_set: bool) -> Option<SetFault>
+    ensures { result ≡ (if admissible then (if is_set then Some Repeated else None) else Some NotAdmissible) }
+{
+    if !admissible {
+        return Some(SetFault::NotAdmissible);
+    }
+    if is_set {
+        return Some(SetFault::Repeated);
+    }
+    None
+}
 
 /// Sets a value at a key that has none.
 pub(crate) fn set_value<K: Ord + Drop, E: Drop>(

@@ -1,9 +1,8 @@
-use Rattle.std.proofs.Common.{◌∙◌, ℕ, List, sym, arith, subst}
+use Rattle.std.proofs.Common.{◌∙◌, sym, arith}
 use Rattle.std.proofs.lemmas.Result.{err_from_is_err_and}
 use Rattle.std.proofs.lemmas.Option.{slice_get_within}
 use Rattle.line_text.specs.Text.{words_of}
 use Rattle.line_text.proofs.PartLemmas.{words_short}
-use Rattle.category_text.specs.Answers.{Says}
 use Rattle.category_text.proofs.LabelLemmas.{further, stops, ends, past}
 use Rattle.category_text.proofs.head.read_labels.Goals as goal
 
@@ -31,9 +30,14 @@ loop-word-preserved c =
       spelled = sym next.spelled ∙ c.loop-word.invariant.spelled;
     }
 
-pub returns-clause-labels : goal.returns-clause-labels
-returns-clause-labels c =
-    subst (λ stated. Says (λ (names : List (List ℕ)). names) c.judged.result stated)
-    (ends (words_of c.args.line.now.text.now) c.loop-word.names c.loop-word.place (sym c.if-not-has_word.false ∙ c.has_word.ensures) c.loop-word.invariant.within
+pub returns-in-Ok-clause-labels : goal.returns-in-Ok-clause-labels
+returns-in-Ok-clause-labels c =
+    sym (ends (words_of c.args.line.now.text.now) c.loop-word.names c.loop-word.place (sym c.if-not-has_word.false ∙ c.has_word.ensures) c.loop-word.invariant.within
     (past (words_of c.args.line.now.text.now) c.loop-word.place c.in_default.ensures) c.loop-word.invariant.kept c.loop-word.invariant.spelled)
-    c.judged.ensures.judged
+    ∙ c.in-Ok.ensures.judged
+
+pub returns-in-Err-clause-labels : goal.returns-in-Err-clause-labels
+returns-in-Err-clause-labels c =
+    sym (ends (words_of c.args.line.now.text.now) c.loop-word.names c.loop-word.place (sym c.if-not-has_word.false ∙ c.has_word.ensures) c.loop-word.invariant.within
+    (past (words_of c.args.line.now.text.now) c.loop-word.place c.in_default.ensures) c.loop-word.invariant.kept c.loop-word.invariant.spelled)
+    ∙ c.in-Err.ensures.judged

@@ -1,25 +1,35 @@
-use Rattle.std.proofs.Common.{◌≡◌, ℕ, sym, ap, ◌∙◌, Ok}
+use Rattle.std.proofs.Common.{ℕ, sym, ap, subst, ◌∙◌}
 use Rattle.std.proofs.lemmas.Result.{err_from_is_err_and}
 use Rattle.cyclo_core.specs.Ratio.{Ratio}
 use Rattle.symbol_table.specs.Draft.{DraftValue}
-use Rattle.category_text.specs.declared.body.Body.TheVariants.{Fusing}
-use Rattle.category_text.specs.Named.{named_draft}
-use Rattle.category_text.specs.Reading.{head_of, begun}
-use Rattle.category_text.specs.Answers.{so_far}
-use Rattle.category_text.proofs.WholeLemmas.{begun_is, whole_ok, whole_err}
+use Rattle.category_text.specs.Reading.{head_of}
+use Rattle.category_text.specs.Answers.{Fails, body_said, left_of, setting}
+use Rattle.category_text.proofs.KeepLemmas.{all_said}
+use Rattle.category_text.proofs.WholeLemmas.{whole_said}
 use Rattle.category_text.proofs.reading.read_category.Goals as goal
 
-pub returns-in_err-body-clause-category : goal.returns-in_err-body-clause-category
-returns-in_err-body-clause-category c =
-    let is : so_far c.in_ok-ring.names (Fusing c.in_ok-ring.ring c.new-rules.result) ≡ begun c.in_ok-ring.ring c.in_ok-ring.names =
-    begun_is c.in_ok-ring.ring c.in_ok-ring.names c.new-rules.result c.count.result c.new-rules.ensures.count c.count.ensures.count c.new-rules.ensures.triples in
-    let p = err_from_is_err_and c.from_residual-in_err-body.result c.from_residual-in_err-body.ensures.1 in
-    rw (p.1, p.2) (whole_err c.in_err-body.field-0.0 c.args.bytes.now c.in_ok-ring.ring c.in_ok-ring.names c.read_head.new.lines.ahead (so_far c.in_ok-ring.names (Fusing c.in_ok-ring.ring c.new-rules.result)) (ap head_of (sym c.new-lines.ensures) ∙ c.in_ok-ring.ensures.head) is c.in_err-body.ensures.said)
+pub returns-in_err-first-clause-category : goal.returns-in_err-first-clause-category
+returns-in_err-first-clause-category c =
+    let p = err_from_is_err_and c.from_residual-in_err-first.result c.from_residual-in_err-first.ensures.1 in
+    rw (p.1, p.2) (whole_said c.args.bytes.now c.in_ok-ring.ring c.in_ok-ring.names c.read_head.new.lines.ahead c.new-rules.result c.count.result
+    (ap head_of (sym c.new-lines.ensures) ∙ c.in_ok-ring.ensures.head) c.new-rules.ensures.count c.count.ensures.count c.new-rules.ensures.triples
+    ∙ c.in_err-first.ensures.said c.in_ok-ring.ring)
+
+pub returns-in_err-read_symbols-clause-category : goal.returns-in_err-read_symbols-clause-category
+returns-in_err-read_symbols-clause-category c =
+    let p = err_from_is_err_and c.from_residual-in_err-read_symbols.result c.from_residual-in_err-read_symbols.ensures.1 in
+    rw (p.1, p.2) (subst (Fails c.in_err-read_symbols.field-0.0) (sym (whole_said c.args.bytes.now c.in_ok-ring.ring c.in_ok-ring.names c.read_head.new.lines.ahead c.new-rules.result c.count.result
+    (ap head_of (sym c.new-lines.ensures) ∙ c.in_ok-ring.ensures.head) c.new-rules.ensures.count c.count.ensures.count c.new-rules.ensures.triples
+    ∙ c.in_ok-first.ensures.said c.in_ok-ring.ring
+    ∙ ap (λ (draft : DraftValue ℕ Ratio). body_said (setting c.in_ok-ring.names draft) (left_of c.in_ok-first.first c.read_fusions.new.lines.ahead)) (sym c.new-draft.ensures))) c.in_err-read_symbols.ensures.said)
 
 pub returns-clause-category : goal.returns-clause-category
 returns-clause-category c =
-    let is : so_far c.in_ok-ring.names (Fusing c.in_ok-ring.ring c.new-rules.result) ≡ begun c.in_ok-ring.ring c.in_ok-ring.names =
-    begun_is c.in_ok-ring.ring c.in_ok-ring.names c.new-rules.result c.count.result c.new-rules.ensures.count c.count.ensures.count c.new-rules.ensures.triples in
-    whole_ok c.args.bytes.now c.in_ok-ring.ring c.in_ok-ring.names c.read_head.new.lines.ahead (so_far c.in_ok-ring.names (Fusing c.in_ok-ring.ring c.new-rules.result)) (so_far c.in_ok-ring.names c.in_ok-body.body)
-    (ap head_of (sym c.new-lines.ensures) ∙ c.in_ok-ring.ensures.head) is c.in_ok-body.ensures.said
-    ∙ ap (λ (d : DraftValue ℕ Ratio). Ok (named_draft c.in_ok-ring.names d)) (sym c.into_draft.ensures)
+    whole_said c.args.bytes.now c.in_ok-ring.ring c.in_ok-ring.names c.read_head.new.lines.ahead c.new-rules.result c.count.result
+    (ap head_of (sym c.new-lines.ensures) ∙ c.in_ok-ring.ensures.head) c.new-rules.ensures.count c.count.ensures.count c.new-rules.ensures.triples
+    ∙ c.in_ok-first.ensures.said c.in_ok-ring.ring
+    ∙ ap (λ (draft : DraftValue ℕ Ratio). body_said (setting c.in_ok-ring.names draft) (left_of c.in_ok-first.first c.read_fusions.new.lines.ahead)) (sym c.new-draft.ensures)
+    ∙ c.in_ok-read_symbols.ensures.said
+
+pub returns-clause-said : goal.returns-clause-said
+returns-clause-said c = all_said c.args.bytes.now _ (returns-clause-category c)

@@ -1,6 +1,6 @@
 use Rattle.std.proofs.Common.{ℕ, List, ◌∙◌, ◌++◌, ◌∷◌, [], ap}
 use Rattle.cyclo_text.specs.NumberWords.{spelled_number}
-use Rattle.category_text.specs.Canonical.{name_of}
+use Rattle.fusion_rules.specs.Names.{name_of}
 use Rattle.category_text.proofs.WritingLemmas.{behind_again, six_names}
 use Rattle.category_text.proofs.writing.write_f_line.Goals as goal
 

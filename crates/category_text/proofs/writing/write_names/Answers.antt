@@ -4,4 +4,4 @@ use Rattle.category_text.proofs.writing.write_names.Goals as goal
 
 pub loop-label-preserved : goal.loop-label-preserved
 loop-label-preserved c =
-    names_more c.args.names.now c.loop-label.label c.loop-label.text.items c.write_word.new.text.items (c.in_ok-write_word.ensures ∙ ap (λ t. c.loop-label.text.items ++ 32 ∷ t) (c.as_bytes.ensures.value ∙ c.name.ensures)) (omega arith) ∙ c.loop-label.invariant
+    names_more c.args.names.now c.loop-label.label c.loop-label.text.items c.write_word.new.out.items (c.in_ok-write_word.ensures ∙ ap (λ t. c.loop-label.text.items ++ 32 ∷ t) c.name.ensures) (omega arith) ∙ c.loop-label.invariant

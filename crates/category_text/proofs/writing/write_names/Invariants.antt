@@ -1,6 +1,6 @@
 use Rattle.std.proofs.Common.{◌≡◌, ◌++◌, drop}
-use Rattle.category_text.specs.Writing.{names_text}
+use Rattle.line_text.specs.Writing.{spaced_on}
 use Rattle.category_text.proofs.writing.write_names.Given as goal
 
 abbrev pub invariant-loop-label : goal.invariant-loop-label
-invariant-loop-label l = l.text.items ++ names_text (drop l.label l.names) ≡ l.fn.text.items ++ names_text l.names
+invariant-loop-label l = l.text.items ++ spaced_on (drop l.label l.names) ≡ l.fn.text.items ++ spaced_on l.names

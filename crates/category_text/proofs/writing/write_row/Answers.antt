@@ -7,6 +7,6 @@ use Rattle.category_text.proofs.writing.write_row.Goals as goal
 
 pub loop-c-preserved : goal.loop-c-preserved
 loop-c-preserved c = record {
-  text = texts_more (λ (k : ℕ). group_text (seen c.args.named.now) c.args.group (v_index c.args.a c.args.b k)) c.loop-c.c (length c.args.named.now.names) c.loop-c.text.items c.write_line.new.text.items c.in_ok-write_line.ensures.text (omega arith) ∙ c.loop-c.invariant.text;
-  numbers = up_to_more (λ (k : ℕ). GroupNumber (seen c.args.named.now) c.args.group (v_index c.args.a c.args.b k)) c.loop-c.c c.loop-c.invariant.numbers c.in_ok-write_line.ensures.numbers;
+  text = texts_more (λ (k : ℕ). group_text (seen c.args.named.now) c.args.group (v_index c.args.a c.args.b k)) c.loop-c.c (length c.args.named.now.names) c.loop-c.text.items c.write_entry.new.text.items c.in_ok-write_entry.ensures.text (omega arith) ∙ c.loop-c.invariant.text;
+  numbers = up_to_more (λ (k : ℕ). GroupNumber (seen c.args.named.now) c.args.group (v_index c.args.a c.args.b k)) c.loop-c.c c.loop-c.invariant.numbers c.in_ok-write_entry.ensures.numbers;
 }

@@ -3,8 +3,8 @@ use Rattle.std.proofs.lemmas.List.{length-map}
 use Rattle.fusion_rules.proofs.NameLemmas.{New, full, known, fresh, last_index, any_is, none_is}
 use Rattle.fusion_rules.proofs.names.Names.add.Goals as goal
 
-pub returns-then-len-eq-LIMIT : goal.returns-then-len-eq-LIMIT
-returns-then-len-eq-LIMIT c = (full c.self.inside.set.keys _ c.args.name.now c.self.view_is c.in-Some.ensures.0 (omega (arith, c.len.ensures.len)), refl)
+pub returns-then-len-eq-LABEL_LIMIT : goal.returns-then-len-eq-LABEL_LIMIT
+returns-then-len-eq-LABEL_LIMIT c = (full c.self.inside.set.keys _ c.args.name.now c.self.view_is c.in-Some.ensures.0 (omega (arith, c.len.ensures.len)), refl)
 
 pub returns-then-not-is_new : goal.returns-then-not-is_new
 returns-then-not-is_new c =
