@@ -15,6 +15,7 @@ pub fn left_comb_start<R: StarRing>(category: &Category<R>)
     ensures weight { FirstFactorIsOne (draft_symbols (R.ring category.now.ring) R.held category.now) }
     ensures outcomes { OutcomesAreInner (draft_symbols (R.ring category.now.ring) R.held category.now) }
 {
+    // Two calls whose contracts tell that the draft is lawful and that its rules are rules.
     let _lawful = category.draft();
     let _count = category.rules().count();
 }
