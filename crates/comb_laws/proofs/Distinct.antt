@@ -7,6 +7,7 @@ use Rattle.symbol_table.proofs.Fib.{Whole5, num, ring5, held5}
 -- turns, so that no two labels, no two symbols and no conjugate can be exchanged unseen.
 abbrev pub distinct_given : Given Whole5
 distinct_given = record {
+  version = 1;
   count = 3;
   fuse = λ a b c. true;
   set_f = λ a b c d e f. Some (num (pos (a + 2 * b + 3 * c + 4 * d + 5 * e + 6 * f)) (pos 1) (pos 0) (pos 0));
