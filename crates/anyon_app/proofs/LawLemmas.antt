@@ -25,7 +25,7 @@ use Rattle.law_events.specs.Sides.{first_of_all}
 use Rattle.anyon_app.specs.declared.texts.Kind as text
 use Rattle.anyon_app.specs.declared.texts.Kind.TheVariants.{Category}
 use Rattle.anyon_app.specs.Replies.{Reply, done, refused, limited}
-use Rattle.anyon_app.specs.Refusals.{too_long, not_built, rules_line, event_line, event_reply, event_words}
+use Rattle.anyon_app.specs.Refusals.{category_line, too_long, not_built, rules_line, event_line, event_reply, event_words}
 use Rattle.anyon_app.specs.Work.{Work, Says, reply_of, text_limit, judged, read_work}
 use Rattle.anyon_app.specs.Categories.{named_of, named_or}
 use Rattle.anyon_app.specs.Verdicts.{category_verdict, symbols_in, unless}
@@ -96,7 +96,9 @@ no_category text reply report is e = along (category_of text) is
   where
     along : (r : Result NamedSymbols Fault) → named_or r ≡ Err reply → ⊥
     along (Ok named) is = absurd cc
-    along (Err fault) is = refused_apart _ report (cc (is, e))
+    along (Err fault) is =
+        let same : category_line fault.line fault.cause ≡ reply = cc in
+        refused_apart (category_line fault.line fault.cause).bytes report (same ∙ e)
 
 too_long_apart : (report : List ℕ) → too_long Category ≡ done report → ⊥
 too_long_apart report e = refused_apart _ report e
