@@ -157,7 +157,7 @@ pub accepted_is_lawful : AcceptedIsLawful
 unfolding check_work
 accepted_is_lawful files name report went =
     let read = was_read (too_long Category) named_of (λ named. judged (unless (category_verdict named)) (λ _. Says (done (accepted named)))) files name report
-        too_long_apart (λ text reply is e. no_category text reply report is e) went in
+    too_long_apart (λ text reply is e. no_category text reply report is e) went in
     let nothing = undecided read.value (λ _. Says (done (accepted read.value))) files report (category_verdict read.value) refl read.went in
     has_lawful files name read.text read.value read.there read.short read.reads nothing.0
 
@@ -165,8 +165,8 @@ pub finished_is_lawful : FinishedIsLawful
 unfolding comb_work
 finished_is_lawful files category program report went =
     let read = was_read (too_long Category) named_of
-        (λ named. judged (unless (count_line named.given.count)) (λ _. judged (unless (category_verdict named)) (λ _. program_work program named))) files category report
-        too_long_apart (λ text reply is e. no_category text reply report is e) went in
+    (λ named. judged (unless (count_line named.given.count)) (λ _. judged (unless (category_verdict named)) (λ _. program_work program named))) files category report
+    too_long_apart (λ text reply is e. no_category text reply report is e) went in
     let two = two_labels read.value (λ _. judged (unless (category_verdict read.value)) (λ _. program_work program read.value)) files report (read.value.given.count == 2) read.went in
     let nothing = undecided read.value (λ _. program_work program read.value) files report (category_verdict read.value) refl two in
     has_lawful files category read.text read.value read.there read.short read.reads nothing.0

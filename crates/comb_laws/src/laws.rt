@@ -1,6 +1,6 @@
 //! What the laws of a category say of comb vectors.
 
-ghost use Rattle.symbol_table.specs.Category.{draft_symbols};
+ghost use Rattle.symbol_table.specs.Category.{symbols};
 ghost use Rattle.comb_laws.specs.Laws.{FirstFactorIsOne, OutcomesAreInner, StartsAtOwnPath};
 
 use ring_laws::StarRing;
@@ -11,9 +11,9 @@ use symbol_table::Category;
 ///
 /// It rests on the laws of the unit, on the inverse weights and on the formula of H.
 pub fn left_comb_start<R: StarRing>(category: &Category<R>)
-    ensures start { StartsAtOwnPath (draft_symbols (R.ring category.now.ring) R.held category.now) }
-    ensures weight { FirstFactorIsOne (draft_symbols (R.ring category.now.ring) R.held category.now) }
-    ensures outcomes { OutcomesAreInner (draft_symbols (R.ring category.now.ring) R.held category.now) }
+    ensures start { StartsAtOwnPath (symbols R.StarRing category.now) }
+    ensures weight { FirstFactorIsOne (symbols R.StarRing category.now) }
+    ensures outcomes { OutcomesAreInner (symbols R.StarRing category.now) }
 {
     // Two calls whose contracts tell that the draft is lawful and that its rules are rules.
     let _lawful = category.draft();

@@ -4,7 +4,7 @@ ghost use Rattle.std.specs.Prelude.{◌≡◌, ◌<◌, ◌≤◌, ◌+◌, ◌-
 ghost use Rattle.std.specs.Str.{bytes_eq};
 ghost use Rattle.std.specs.Map.{keys_of};
 ghost use Rattle.ring_laws.specs.Stated.{Gives};
-ghost use Rattle.symbol_table.specs.Category.{draft_symbols};
+ghost use Rattle.symbol_table.specs.Category.{symbols};
 ghost use Rattle.comb_laws.specs.Paths.{goes_on as spec_goes_on, is_path as spec_is_path};
 ghost use Rattle.comb_run.specs.Entries.{vector_of, entry_at, kept_of, gathered, among, items_of, AreMembers, AreEntries};
 ghost use Rattle.comb_laws.specs.Paths.{IsAlong};
@@ -12,6 +12,7 @@ ghost use Rattle.comb_laws.specs.Operators.{acted};
 ghost use Rattle.comb_run.specs.Evaluated.{acted_step, acted_at as spec_acted_at, acted_fits};
 ghost use Rattle.comb_run.specs.Operations.{kernel_at, IsAction};
 ghost use Rattle.comb_laws.specs.Operators.{kernel_of};
+ghost use Rattle.symbol_table.specs.Draft.{IsMember};
 
 use crate::fault::StepFault;
 use crate::kernel::{Place, kernel};
@@ -34,7 +35,7 @@ pub(crate) struct Action<'a> {
 fn goes_on<R: StarRing>(category: &Category<R>, p: u8, strands: &[u8], at: &[u8]) -> bool
     requires p { p < category.now.rules.count }
     requires strands { All (λ x. x < category.now.rules.count) strands.now }
-    ensures { result ≡ spec_goes_on (draft_symbols (R.ring category.now.ring) R.held category.now) p strands.now at.now }
+    ensures { result ≡ spec_goes_on (symbols R.StarRing category.now) p strands.now at.now }
 {
     let [s, ss @ ..] = strands else {
         return at.is_empty();
@@ -51,7 +52,7 @@ fn goes_on<R: StarRing>(category: &Category<R>, p: u8, strands: &[u8], at: &[u8]
 fn is_path<R: StarRing>(category: &Category<R>, strands: &[u8], at: &[u8]) -> bool
     requires some { 0 < category.now.rules.count }
     requires strands { All (λ x. x < category.now.rules.count) strands.now }
-    ensures { result ≡ spec_is_path (draft_symbols (R.ring category.now.ring) R.held category.now) strands.now at.now }
+    ensures { result ≡ spec_is_path (symbols R.StarRing category.now) strands.now at.now }
 {
     match at {
         [] => false,
@@ -72,10 +73,10 @@ fn acted_term<R: StarRing>(
     requires along { IsAlong category.now.rules.count (length action.now.strands.now) path.now.items }
     requires label { t < category.now.rules.count }
     requires members { AreMembers (R.ring category.now.ring) vector.now }
-    requires sum { IsTrue ((R.ring category.now.ring).member sum) }
-    ensures value { let c = draft_symbols (R.ring category.now.ring) R.held category.now in
+    requires sum { IsMember R.StarRing category.now sum }
+    ensures value { let c = symbols R.StarRing category.now in
         Gives result (acted_step c action.now.strands.now action.now.gap (kernel_at c action.now.operator) (vector_of c.ring vector.now) path.now.items t sum) }
-    ensures member { IfOk result (λ z. IsTrue ((R.ring category.now.ring).member z)) }
+    ensures member { IfOk result (λ z. IsMember R.StarRing category.now z) }
 {
     let k = action.gap;
     let old = value_at(category.ring(), vector, &with_label(path, k, t));
@@ -105,9 +106,9 @@ fn acted_at<R: StarRing>(
     requires action { IsAction category.now.rules.count action.now.operator action.now.strands.now action.now.after.now action.now.gap }
     requires along { IsAlong category.now.rules.count (length action.now.strands.now) path.now.items }
     requires members { AreMembers (R.ring category.now.ring) vector.now }
-    ensures value { let c = draft_symbols (R.ring category.now.ring) R.held category.now in
+    ensures value { let c = symbols R.StarRing category.now in
         Gives result (spec_acted_at c action.now.strands.now action.now.after.now action.now.gap (kernel_at c action.now.operator) (vector_of c.ring vector.now) path.now.items) }
-    ensures member { IfOk result (λ z. IsTrue ((R.ring category.now.ring).member z)) }
+    ensures member { IfOk result (λ z. IsMember R.StarRing category.now z) }
 {
     if !is_path(category, action.after, path.as_slice()) {
         return Ok(category.ring().zero());
@@ -145,15 +146,15 @@ fn gather<R: StarRing>(
     requires action { IsAction category.now.rules.count action.now.operator action.now.strands.now action.now.after.now action.now.gap }
     requires members { AreMembers (R.ring category.now.ring) vector.now }
     requires targets { All (λ p. IsAlong category.now.rules.count (length action.now.strands.now) p.items) targets.now }
-    ensures entries { let c = draft_symbols (R.ring category.now.ring) R.held category.now in
+    ensures entries { let c = symbols R.StarRing category.now in
         IfOk result (λ new. (x : List ℕ) → entry_at new x
         ≡ gathered c.held (acted c action.now.strands.now action.now.after.now action.now.gap (kernel_of c action.now.operator) (vector_of c.ring vector.now)) (items_of targets.now) x) }
     // Each item fits.
-    ensures fits { let c = draft_symbols (R.ring category.now.ring) R.held category.now in
+    ensures fits { let c = symbols R.StarRing category.now in
         IfOk result (λ _. (x : List ℕ) → among x (items_of targets.now) ≡ true
         → is_some (spec_acted_at c action.now.strands.now action.now.after.now action.now.gap (kernel_at c action.now.operator) (vector_of c.ring vector.now) x) ≡ true) }
     // A stop comes only where an item doesn't.
-    ensures too_large { let c = draft_symbols (R.ring category.now.ring) R.held category.now in
+    ensures too_large { let c = symbols R.StarRing category.now in
         IsErrOf result StepFault.TooLarge → (x : List ℕ) × (among x (items_of targets.now) ≡ true)
         × (spec_acted_at c action.now.strands.now action.now.after.now action.now.gap (kernel_at c action.now.operator) (vector_of c.ring vector.now) x ≡ None) }
 {
@@ -175,13 +176,13 @@ pub(crate) fn act<R: StarRing>(
     vector: &CombVector<R>,
 ) -> Result<CombVector<R>, StepFault>
     requires action { IsAction category.now.rules.count action.now.operator action.now.strands.now action.now.after.now action.now.gap }
-    requires entries { AreEntries (draft_symbols (R.ring category.now.ring) R.held category.now) action.now.strands.now vector.now }
-    ensures vector { let c = draft_symbols (R.ring category.now.ring) R.held category.now in
+    requires entries { AreEntries (symbols R.StarRing category.now) action.now.strands.now vector.now }
+    ensures vector { let c = symbols R.StarRing category.now in
         IfOk result (λ new. vector_of c.ring new ≡ acted c action.now.strands.now action.now.after.now action.now.gap (kernel_of c action.now.operator) (vector_of c.ring vector.now)) }
-    ensures entries { IfOk result (λ new. AreEntries (draft_symbols (R.ring category.now.ring) R.held category.now) action.now.after.now new) }
-    ensures fits { let c = draft_symbols (R.ring category.now.ring) R.held category.now in
+    ensures entries { IfOk result (λ new. AreEntries (symbols R.StarRing category.now) action.now.after.now new) }
+    ensures fits { let c = symbols R.StarRing category.now in
         IfOk result (λ _. acted_fits c action.now.strands.now action.now.after.now action.now.gap (kernel_at c action.now.operator) (vector_of c.ring vector.now) ≡ true) }
-    ensures too_large { let c = draft_symbols (R.ring category.now.ring) R.held category.now in
+    ensures too_large { let c = symbols R.StarRing category.now in
         IsErrOf result StepFault.TooLarge → acted_fits c action.now.strands.now action.now.after.now action.now.gap (kernel_at c action.now.operator) (vector_of c.ring vector.now) ≡ false }
 {
     let targets = vector.targets(alloc, action.gap, category.rules().count())?;

@@ -2,8 +2,8 @@
 
 ghost use Rattle.std.specs.Prelude.{◌≡◌, ◌<◌, ◌≤◌, length, IfOk, true};
 ghost use Rattle.fusion_rules.specs.Fusion.{fuses};
-ghost use Rattle.symbol_table.specs.Category.{draft_symbols};
-ghost use Rattle.symbol_table.specs.Category.{draft_symbols};
+ghost use Rattle.symbol_table.specs.Category.{symbols};
+ghost use Rattle.symbol_table.specs.Category.{symbols};
 ghost use Rattle.tree_shapes.specs.Views.{labelled};
 ghost use Rattle.tree_shapes.specs.Labelled.{leaves, size};
 ghost use Rattle.program_text.specs.Program.{program_of};
@@ -33,7 +33,7 @@ fn comb_rows<R: StarRing>(
     requires start { is_comb_start (fuses category.now.rules) category.now.rules.count (labelled tree.now) ≡ true }
     requires form { is_measured_braid (size (labelled tree.now)) commands.now ≡ true }
     requires few { length commands.now ≤ 4096 }
-    ensures { let c = draft_symbols (R.ring category.now.ring) R.held category.now in
+    ensures { let c = symbols R.StarRing category.now in
         Runs outcomes_in result (evaluation_of c (labelled tree.now) commands.now) }
 {
     // Tells that there are labels, and that the unit times a label is that label.
@@ -63,10 +63,10 @@ pub fn comb_run<R: StarRing>(
 ) -> Result<Rows<R>, RunFault>
     requires form { is_comb_program (fuses category.now.rules) category.now.rules.count (program_of plan.now) ≡ true }
     // The total and the rows are those of the comb operators on the start's path amplitudes.
-    ensures rows { let c = draft_symbols (R.ring category.now.ring) R.held category.now in
+    ensures rows { let c = symbols R.StarRing category.now in
         IfOk result (λ rows. outcomes_in rows ≡ outcomes_of c (labelled plan.now.start) (commands_of (program_of plan.now))) }
     // It stops exactly where the stated evaluation does.
-    ensures evaluated { let c = draft_symbols (R.ring category.now.ring) R.held category.now in
+    ensures evaluated { let c = symbols R.StarRing category.now in
         Runs outcomes_in result (evaluation_of c (labelled plan.now.start) (commands_of (program_of plan.now))) }
 {
     left_comb_start(category);

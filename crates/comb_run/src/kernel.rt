@@ -1,12 +1,13 @@
 //! What exchanges and projections multiply by.
 
-ghost use Rattle.std.specs.Prelude.{◌≡◌, ◌<◌, IsTrue, IfOk, true};
+ghost use Rattle.std.specs.Prelude.{◌≡◌, ◌<◌, IfOk, true};
 ghost use Rattle.fusion_rules.specs.Fusion.{fuses};
 ghost use Rattle.ring_laws.specs.Stated.{Gives};
-ghost use Rattle.symbol_table.specs.Category.{draft_symbols};
+ghost use Rattle.symbol_table.specs.Category.{symbols};
 ghost use Rattle.comb_laws.specs.Operators.{exchange_by};
 ghost use Rattle.comb_run.specs.Evaluated.{braid_step, braid_kernel_at, charge_kernel_at};
 ghost use Rattle.comb_run.specs.Operations.{kernel_at, charge_below, IsPlace};
+ghost use Rattle.symbol_table.specs.Draft.{IsMember};
 
 use comb_laws::Operator;
 use program_text::Sign;
@@ -28,8 +29,8 @@ pub(crate) struct Place {
 /// R at a vertex for a positive exchange, S for a negative one.
 fn exchange<R: StarRing>(category: &Category<R>, sign: Sign, at: &VIndex) -> R::Elem
     requires { fuses category.now.rules at.now.a at.now.b at.now.c ≡ true }
-    ensures value { result ≡ exchange_by (draft_symbols (R.ring category.now.ring) R.held category.now) sign at.now.a at.now.b at.now.c }
-    ensures member { IsTrue ((R.ring category.now.ring).member result) }
+    ensures value { result ≡ exchange_by (symbols R.StarRing category.now) sign at.now.a at.now.b at.now.c }
+    ensures member { IsMember R.StarRing category.now result }
 {
     match sign {
         Sign::Plus => category.r(at),
@@ -47,10 +48,10 @@ fn braid_term<R: StarRing>(
 ) -> Result<R::Elem, Overflow>
     requires labels { IsPlace category.now.rules.count place.now }
     requires q { q < category.now.rules.count }
-    requires sum { IsTrue ((R.ring category.now.ring).member sum) }
-    ensures value { Gives result (braid_step (draft_symbols (R.ring category.now.ring) R.held category.now) sign
+    requires sum { IsMember R.StarRing category.now sum }
+    ensures value { Gives result (braid_step (symbols R.StarRing category.now) sign
         place.now.p place.now.a place.now.b place.now.y place.now.t place.now.u q sum) }
-    ensures member { IfOk result (λ z. IsTrue ((R.ring category.now.ring).member z)) }
+    ensures member { IfOk result (λ z. IsMember R.StarRing category.now z) }
 {
     let Place { p, a, b, y, t, u } = *place;
     let before = FIndex {
@@ -88,9 +89,9 @@ fn braid_kernel<R: StarRing>(
     place: &Place,
 ) -> Result<R::Elem, Overflow>
     requires { IsPlace category.now.rules.count place.now }
-    ensures value { Gives result (braid_kernel_at (draft_symbols (R.ring category.now.ring) R.held category.now) sign
+    ensures value { Gives result (braid_kernel_at (symbols R.StarRing category.now) sign
         place.now.p place.now.a place.now.b place.now.y place.now.t place.now.u) }
-    ensures member { IfOk result (λ z. IsTrue ((R.ring category.now.ring).member z)) }
+    ensures member { IfOk result (λ z. IsMember R.StarRing category.now z) }
 {
     sum_over_labels(category.ring(), category.rules().count(), |q, sum| {
         braid_term(category, sign, place, q, sum)
@@ -105,9 +106,9 @@ fn charge_kernel<R: StarRing>(
 ) -> Result<R::Elem, Overflow>
     requires labels { IsPlace category.now.rules.count place.now }
     requires q { q < category.now.rules.count }
-    ensures value { Gives result (charge_kernel_at (draft_symbols (R.ring category.now.ring) R.held category.now) q
+    ensures value { Gives result (charge_kernel_at (symbols R.StarRing category.now) q
         place.now.p place.now.a place.now.b place.now.y place.now.t place.now.u) }
-    ensures member { IfOk result (λ z. IsTrue ((R.ring category.now.ring).member z)) }
+    ensures member { IfOk result (λ z. IsMember R.StarRing category.now z) }
 {
     let Place { p, a, b, y, t, u } = *place;
     let over = FIndex {
@@ -145,9 +146,9 @@ pub(crate) fn kernel<R: StarRing>(
 ) -> Result<R::Elem, Overflow>
     requires labels { IsPlace category.now.rules.count place.now }
     requires charge { charge_below category.now.rules.count operator }
-    ensures value { Gives result (kernel_at (draft_symbols (R.ring category.now.ring) R.held category.now) operator
+    ensures value { Gives result (kernel_at (symbols R.StarRing category.now) operator
         place.now.p place.now.a place.now.b place.now.y place.now.t place.now.u) }
-    ensures member { IfOk result (λ z. IsTrue ((R.ring category.now.ring).member z)) }
+    ensures member { IfOk result (λ z. IsMember R.StarRing category.now z) }
 {
     match operator {
         Operator::Exchange(sign) => braid_kernel(category, sign, place),

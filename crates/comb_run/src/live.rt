@@ -1,8 +1,8 @@
 //! The words that a measurement makes, and their rows.
 
-ghost use Rattle.std.specs.Prelude.{◌≡◌, ◌<◌, ◌++◌, ℕ, [], ◌∷◌, List, All, IsTrue, IfOk, OnOk, IsErrOf, true, false, not, Some, None, if◌then◌else◌};
+ghost use Rattle.std.specs.Prelude.{◌≡◌, ◌<◌, ◌++◌, ℕ, [], ◌∷◌, List, All, IfOk, OnOk, IsErrOf, true, false, not, Some, None, if◌then◌else◌};
 ghost use Rattle.std.specs.List.{list_all};
-ghost use Rattle.symbol_table.specs.Category.{draft_symbols};
+ghost use Rattle.symbol_table.specs.Category.{symbols};
 ghost use Rattle.comb_laws.specs.Paths.{labels};
 ghost use Rattle.comb_laws.specs.Operators.{projected};
 ghost use Rattle.comb_run.specs.Entries.{vector_of, AreEntries};
@@ -55,16 +55,16 @@ fn push_outcome<R: StarRing>(
 ) -> Result<(), StepFault>
     requires gap { IsGap category.now.rules.count strands.now k }
     requires charge { q < category.now.rules.count }
-    requires entries { AreEntries (draft_symbols (R.ring category.now.ring) R.held category.now) strands.now vector.now }
-    requires words { All (λ w. AreEntries (draft_symbols (R.ring category.now.ring) R.held category.now) strands.now w.vector) words.old.items }
-    ensures words { let c = draft_symbols (R.ring category.now.ring) R.held category.now in
+    requires entries { AreEntries (symbols R.StarRing category.now) strands.now vector.now }
+    requires words { All (λ w. AreEntries (symbols R.StarRing category.now) strands.now w.vector) words.old.items }
+    ensures words { let c = symbols R.StarRing category.now in
         let v = projected c strands.now k q (vector_of c.ring vector.now) in
         OnOk result (lives_of c.ring words.new.items ≡ lives_of c.ring words.old.items
         ++ (if is_nought c strands.now v then [] else record { word = q ∷ []; vector = v } ∷ [])) }
-    ensures entries { OnOk result (All (λ w. AreEntries (draft_symbols (R.ring category.now.ring) R.held category.now) strands.now w.vector) words.new.items) }
-    ensures fits { let c = draft_symbols (R.ring category.now.ring) R.held category.now in
+    ensures entries { OnOk result (All (λ w. AreEntries (symbols R.StarRing category.now) strands.now w.vector) words.new.items) }
+    ensures fits { let c = symbols R.StarRing category.now in
         OnOk result (projected_fits c strands.now k q (vector_of c.ring vector.now) ≡ true) }
-    ensures too_large { let c = draft_symbols (R.ring category.now.ring) R.held category.now in
+    ensures too_large { let c = symbols R.StarRing category.now in
         IsErrOf result StepFault.TooLarge → projected_fits c strands.now k q (vector_of c.ring vector.now) ≡ false }
 {
     let action = Action {
@@ -97,13 +97,13 @@ pub(crate) fn outcomes<R: StarRing>(
     vector: &CombVector<R>,
 ) -> Result<Vec<Word<R>>, StepFault>
     requires gap { IsGap category.now.rules.count strands.now k }
-    requires entries { AreEntries (draft_symbols (R.ring category.now.ring) R.held category.now) strands.now vector.now }
-    ensures words { let c = draft_symbols (R.ring category.now.ring) R.held category.now in
+    requires entries { AreEntries (symbols R.StarRing category.now) strands.now vector.now }
+    ensures words { let c = symbols R.StarRing category.now in
         IfOk result (λ words. lives_of c.ring words.items ≡ outcomes_at c strands.now k (record { word = []; vector = vector_of c.ring vector.now })) }
-    ensures entries { IfOk result (λ words. All (λ w. AreEntries (draft_symbols (R.ring category.now.ring) R.held category.now) strands.now w.vector) words.items) }
-    ensures fits { let c = draft_symbols (R.ring category.now.ring) R.held category.now in
+    ensures entries { IfOk result (λ words. All (λ w. AreEntries (symbols R.StarRing category.now) strands.now w.vector) words.items) }
+    ensures fits { let c = symbols R.StarRing category.now in
         IfOk result (λ _. list_all (λ q. projected_fits c strands.now k q (vector_of c.ring vector.now)) (labels c.count) ≡ true) }
-    ensures too_large { let c = draft_symbols (R.ring category.now.ring) R.held category.now in
+    ensures too_large { let c = symbols R.StarRing category.now in
         IsErrOf result StepFault.TooLarge → list_all (λ q. projected_fits c strands.now k q (vector_of c.ring vector.now)) (labels c.count) ≡ false }
 {
     let mut words = Vec::new(alloc);
@@ -121,10 +121,10 @@ fn push_row<R: StarRing>(
     word: &Word<R>,
     rows: &mut Vec<Row<R>>,
 ) -> Result<(), StepFault>
-    requires { AreEntries (draft_symbols (R.ring category.now.ring) R.held category.now) strands.now word.now.vector }
-    ensures row { let c = draft_symbols (R.ring category.now.ring) R.held category.now in
+    requires { AreEntries (symbols R.StarRing category.now) strands.now word.now.vector }
+    ensures row { let c = symbols R.StarRing category.now in
         OnOk result (row_step c strands.now (live_of c.ring word.now) (rows_of rows.old.items) ≡ Some (rows_of rows.new.items)) }
-    ensures too_large { let c = draft_symbols (R.ring category.now.ring) R.held category.now in
+    ensures too_large { let c = symbols R.StarRing category.now in
         IsErrOf result StepFault.TooLarge → row_step c strands.now (live_of c.ring word.now) (rows_of rows.old.items) ≡ None }
 {
     let weight = word.vector.weight(category, strands)?;
@@ -157,10 +157,10 @@ pub(crate) fn rows_of_words<R: StarRing>(
     strands: &[u8],
     words: &[Word<R>],
 ) -> Result<Vec<Row<R>>, StepFault>
-    requires { All (λ w. AreEntries (draft_symbols (R.ring category.now.ring) R.held category.now) strands.now w.vector) words.now }
-    ensures rows { let c = draft_symbols (R.ring category.now.ring) R.held category.now in
+    requires { All (λ w. AreEntries (symbols R.StarRing category.now) strands.now w.vector) words.now }
+    ensures rows { let c = symbols R.StarRing category.now in
         IfOk result (λ rows. rows_at c strands.now (lives_of c.ring words.now) ≡ Some (rows_of rows.items)) }
-    ensures too_large { let c = draft_symbols (R.ring category.now.ring) R.held category.now in
+    ensures too_large { let c = symbols R.StarRing category.now in
         IsErrOf result StepFault.TooLarge → rows_at c strands.now (lives_of c.ring words.now) ≡ None }
 {
     let mut rows = Vec::new(alloc);

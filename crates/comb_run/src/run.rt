@@ -1,7 +1,7 @@
 //! A run over left-combed paths, in the order of the text.
 
 ghost use Rattle.std.specs.Prelude.{◌≡◌, ◌<◌, ◌≤◌, ◌+◌, ◌-◌, ◌^◌, [], ◌∷◌, List, All, length, slice_set, IfOk, OnOk, OnErr, IsErrOf, true, false};
-ghost use Rattle.symbol_table.specs.Category.{draft_symbols};
+ghost use Rattle.symbol_table.specs.Category.{symbols};
 ghost use Rattle.comb_laws.specs.Operators.{braided, swapped};
 ghost use Rattle.comb_run.specs.Entries.{vector_of, AreEntries};
 ghost use Rattle.comb_run.specs.Evaluated.{braided_fits, rest_of, one_word};
@@ -49,16 +49,16 @@ fn braid<R: StarRing>(
     vector: &mut CombVector<R>,
 ) -> Result<(), StepFault>
     requires gap { IsGap category.now.rules.count strands.old.items k }
-    requires entries { AreEntries (draft_symbols (R.ring category.now.ring) R.held category.now) strands.old.items vector.old }
+    requires entries { AreEntries (symbols R.StarRing category.now) strands.old.items vector.old }
     ensures strands { OnOk result (strands.new.items ≡ swapped strands.old.items k) }
     ensures labels { OnOk result (All (λ s. s < category.now.rules.count) strands.new.items) }
     ensures same_length { OnOk result (length strands.new.items ≡ length strands.old.items) }
-    ensures vector { let c = draft_symbols (R.ring category.now.ring) R.held category.now in
+    ensures vector { let c = symbols R.StarRing category.now in
         OnOk result (vector_of c.ring vector.new ≡ braided c strands.old.items sign k (vector_of c.ring vector.old)) }
-    ensures entries { OnOk result (AreEntries (draft_symbols (R.ring category.now.ring) R.held category.now) strands.new.items vector.new) }
-    ensures fits { let c = draft_symbols (R.ring category.now.ring) R.held category.now in
+    ensures entries { OnOk result (AreEntries (symbols R.StarRing category.now) strands.new.items vector.new) }
+    ensures fits { let c = symbols R.StarRing category.now in
         OnOk result (braided_fits c strands.old.items sign k (vector_of c.ring vector.old) ≡ true) }
-    ensures too_large { let c = draft_symbols (R.ring category.now.ring) R.held category.now in
+    ensures too_large { let c = symbols R.StarRing category.now in
         IsErrOf result StepFault.TooLarge → braided_fits c strands.old.items sign k (vector_of c.ring vector.old) ≡ false }
 {
     let after = swapped(strands, k);
@@ -96,8 +96,8 @@ fn measure<R: StarRing>(
 ) -> Result<Vec<Row<R>>, RunFault>
     requires gap { IsGap category.now.rules.count strands.now k }
     requires turn { turn < 2 ^ 16 }
-    requires entries { AreEntries (draft_symbols (R.ring category.now.ring) R.held category.now) strands.now vector.now }
-    ensures { let c = draft_symbols (R.ring category.now.ring) R.held category.now in
+    requires entries { AreEntries (symbols R.StarRing category.now) strands.now vector.now }
+    ensures { let c = symbols R.StarRing category.now in
         Runs (λ rows. rows_of rows.items) result (rest_of c turn (Measure k ∷ []) strands.now (one_word (vector_of c.ring vector.now))) }
 {
     let words = match outcomes(alloc, category, strands, usize::from(k), vector) {
@@ -123,8 +123,8 @@ pub(crate) fn run<R: StarRing>(
     requires some { 0 < category.now.rules.count }
     requires short { length strands.items ≤ 16 }
     requires labels { All (λ s. s < category.now.rules.count) strands.items }
-    requires entries { AreEntries (draft_symbols (R.ring category.now.ring) R.held category.now) strands.items vector }
-    ensures { let c = draft_symbols (R.ring category.now.ring) R.held category.now in
+    requires entries { AreEntries (symbols R.StarRing category.now) strands.items vector }
+    ensures { let c = symbols R.StarRing category.now in
         Runs (λ rows. rows_of rows.items) result (rest_of c 1 commands.now strands.items (one_word (vector_of c.ring vector))) }
 {
     let mut strands = strands;

@@ -1,7 +1,7 @@
 //! The start of a run: a left-combed tree as a comb vector.
 
 ghost use Rattle.std.specs.Prelude.{◌≡◌, ◌≤◌, ◌+◌, ◌++◌, List, length, IfOk, true};
-ghost use Rattle.symbol_table.specs.Category.{draft_symbols};
+ghost use Rattle.symbol_table.specs.Category.{symbols};
 ghost use Rattle.tree_shapes.specs.Labelled.{leaves};
 ghost use Rattle.tree_shapes.specs.Views.{labelled};
 ghost use Rattle.comb_laws.specs.Paths.{is_path};
@@ -59,9 +59,9 @@ pub(crate) fn own_vector<R: StarRing>(
     tree: &Tree,
 ) -> Result<CombVector<R>, AllocError>
     requires few { length (own_path (labelled tree.now)) ≤ 17 }
-    requires path { is_path (draft_symbols (R.ring category.now.ring) R.held category.now) (leaves (labelled tree.now)) (own_path (labelled tree.now)) ≡ true }
+    requires path { is_path (symbols R.StarRing category.now) (leaves (labelled tree.now)) (own_path (labelled tree.now)) ≡ true }
     ensures vector { IfOk result (λ v. vector_of (R.ring category.now.ring) v ≡ own_vector (R.ring category.now.ring) (labelled tree.now)) }
-    ensures entries { IfOk result (λ v. AreEntries (draft_symbols (R.ring category.now.ring) R.held category.now) (leaves (labelled tree.now)) v) }
+    ensures entries { IfOk result (λ v. AreEntries (symbols R.StarRing category.now) (leaves (labelled tree.now)) v) }
 {
     let mut vector = CombVector::new(alloc);
     vector.put(own_path(tree), category.ring().one())?;

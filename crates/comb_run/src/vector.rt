@@ -6,8 +6,9 @@ ghost use Rattle.std.specs.Option.{option_copied};
 ghost use Rattle.std.specs.Map.{keys_of};
 ghost use Rattle.comb_run.specs.Entries.{entry_at, vector_of, items_of, row_of, is_first, targets_of, AreMembers, AreEntries};
 ghost use Rattle.ring_laws.specs.Stated.{Gives};
-ghost use Rattle.symbol_table.specs.Category.{draft_symbols};
+ghost use Rattle.symbol_table.specs.Category.{symbols};
 ghost use Rattle.comb_run.specs.Evaluated.{weight_at};
+ghost use Rattle.symbol_table.specs.Draft.{IsMember};
 
 use crate::weigh::add_path;
 use arrayvec::ArrayVec;
@@ -111,10 +112,10 @@ impl<R: StarRing> CombVector<R> {
 
     /// The weight over these strands, by prefix sums over the paths in their order.
     pub(crate) fn weight(&self, category: &Category<R>, strands: &[u8]) -> Result<R::Elem, Overflow>
-        requires { AreEntries (draft_symbols (R.ring category.now.ring) R.held category.now) strands.now self.now }
-        ensures value { let c = draft_symbols (R.ring category.now.ring) R.held category.now in
+        requires { AreEntries (symbols R.StarRing category.now) strands.now self.now }
+        ensures value { let c = symbols R.StarRing category.now in
             Gives result (weight_at c strands.now (vector_of c.ring self.now)) }
-        ensures member { IfOk result (λ z. IsTrue ((R.ring category.now.ring).member z)) }
+        ensures member { IfOk result (λ z. IsMember R.StarRing category.now z) }
     {
         let mut sum = category.ring().zero();
         for (path, value) in self.entries.iter() {

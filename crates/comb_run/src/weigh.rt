@@ -2,9 +2,10 @@
 
 ghost use Rattle.std.specs.Prelude.{◌≡◌, ◌<◌, List, All, IsTrue, IfOk, Some, true};
 ghost use Rattle.ring_laws.specs.Stated.{Gives};
-ghost use Rattle.symbol_table.specs.Category.{draft_symbols};
+ghost use Rattle.symbol_table.specs.Category.{symbols};
 ghost use Rattle.comb_laws.specs.Paths.{goes_on, is_path};
 ghost use Rattle.comb_run.specs.Evaluated.{weights_along_at, path_weight_at, weight_term_at};
+ghost use Rattle.symbol_table.specs.Draft.{IsMember};
 
 use crate::vector::Path;
 use ring_laws::{Overflow, StarRing};
@@ -18,10 +19,10 @@ fn weights_along<R: StarRing>(
     strands: &[u8],
     labels: &[u8],
 ) -> Result<R::Elem, Overflow>
-    requires begun { IsTrue ((R.ring category.now.ring).member begun) }
-    requires path { goes_on (draft_symbols (R.ring category.now.ring) R.held category.now) p strands.now labels.now ≡ true }
-    ensures value { Gives result (weights_along_at (draft_symbols (R.ring category.now.ring) R.held category.now) begun p strands.now labels.now) }
-    ensures member { IfOk result (λ z. IsTrue ((R.ring category.now.ring).member z)) }
+    requires begun { IsMember R.StarRing category.now begun }
+    requires path { goes_on (symbols R.StarRing category.now) p strands.now labels.now ≡ true }
+    ensures value { Gives result (weights_along_at (symbols R.StarRing category.now) begun p strands.now labels.now) }
+    ensures member { IfOk result (λ z. IsMember R.StarRing category.now z) }
 {
     let [s, ss @ ..] = strands else {
         return Ok(begun);
@@ -40,9 +41,9 @@ fn path_weight<R: StarRing>(
     strands: &[u8],
     path: &[u8],
 ) -> Result<R::Elem, Overflow>
-    requires { is_path (draft_symbols (R.ring category.now.ring) R.held category.now) strands.now path.now ≡ true }
-    ensures value { Gives result (path_weight_at (draft_symbols (R.ring category.now.ring) R.held category.now) strands.now path.now) }
-    ensures member { IfOk result (λ z. IsTrue ((R.ring category.now.ring).member z)) }
+    requires { is_path (symbols R.StarRing category.now) strands.now path.now ≡ true }
+    ensures value { Gives result (path_weight_at (symbols R.StarRing category.now) strands.now path.now) }
+    ensures member { IfOk result (λ z. IsMember R.StarRing category.now z) }
 {
     let [_, ss @ ..] = strands else {
         return Ok(category.ring().one());
@@ -80,12 +81,12 @@ pub(crate) fn add_path<R: StarRing>(
     value: &R::Elem,
     sum: &R::Elem,
 ) -> Result<R::Elem, Overflow>
-    requires path { is_path (draft_symbols (R.ring category.now.ring) R.held category.now) strands.now path.now.items ≡ true }
-    requires value { IsTrue ((R.ring category.now.ring).member value.now) }
-    requires sum { IsTrue ((R.ring category.now.ring).member sum.now) }
-    ensures value { let c = draft_symbols (R.ring category.now.ring) R.held category.now in
+    requires path { is_path (symbols R.StarRing category.now) strands.now path.now.items ≡ true }
+    requires value { IsMember R.StarRing category.now value.now }
+    requires sum { IsMember R.StarRing category.now sum.now }
+    ensures value { let c = symbols R.StarRing category.now in
         Gives result (weight_term_at c.ring (path_weight_at c strands.now path.now.items) value.now sum.now) }
-    ensures member { IfOk result (λ z. IsTrue ((R.ring category.now.ring).member z)) }
+    ensures member { IfOk result (λ z. IsMember R.StarRing category.now z) }
 {
     let weights = path_weight(category, strands, path.as_slice())?;
     weight_term(category.ring(), &weights, value, sum)
