@@ -1,5 +1,6 @@
 //! The top call: words of the command line, a shelf of texts and a sink.
 //!
+//! Glossary:
 //! - *reply*: a status, and the bytes that are written (`specs/Replies.antt`).
 //! - *line*: words with one space between two, ended by the byte 0x0A (`specs/Lines.antt`).
 //! - *work*: what a command does. It wants one text after another, and in the end it says its reply.
@@ -8,6 +9,8 @@
 //! - *stage*: a step of a command. It stops the command, or hands on a value (`specs/Stages.antt`).
 //! - *headline*: what the top call says of its status, of the shelf and of the sink
 //!   (`specs/Headline.antt`, [`anyon`]).
+//! - *category replies*: what `check`, `comb` and `format` say of categories, over the bytes of their texts
+//!   (`specs/Laws.antt`, [`category_replies`]).
 #![tactic(auto)]
 
 mod categories;

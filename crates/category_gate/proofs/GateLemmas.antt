@@ -32,7 +32,7 @@ module _ {E : Type 0} (c : Symbols E) where
   -- a fault of the weight laws, where the rules pass
   pub weights_told : (found : WeightFault) → rules_fault c.count c.fuse ≡ None → IsFault found (first_in c weight_laws) → IsFirst c (of_weights found)
   weights_told (weights.Law event) rules told = (rules, all_is ∙ before_some (first_in c weight_laws) (first_in c shape_laws) event told)
-  weights_told weights.Memory rules told = tt
+  weights_told weights.Memory rules told = rules
 
   -- the laws behind them, where no weight law has an event
   pub shapes_told : (o : Option Event) → first_in c weight_laws ≡ None → first_in c shape_laws ≡ o → first_of_all c ≡ o

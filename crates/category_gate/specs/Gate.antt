@@ -9,11 +9,12 @@ use Rattle.category_gate.specs.declared.GateFault.{GateFault}
 use Rattle.category_gate.specs.declared.GateFault.TheVariants as fault
 
 module _ {E : Type 0} (c : Symbols E) where
-  -- a fault is the first of the rules, or the rules pass and it is the first event of the laws; want of memory is free
+  -- a fault is the first of the rules, or the rules pass and it is the first event of the laws; where they pass, want of
+  -- memory is free
   abbrev pub IsFirst : GateFault → Type 0
   IsFirst (fault.Rules found) = rules_fault c.count c.fuse ≡ Some found
   IsFirst (fault.Law event) = (rules_fault c.count c.fuse ≡ None) × (first_of_all c ≡ Some event)
-  IsFirst fault.Memory = Unit {0}
+  IsFirst fault.Memory = rules_fault c.count c.fuse ≡ None
 
   -- what is answered: the rules pass and no law has an event, or the first fault
   abbrev pub Admits : {A : Type 0} → Result A GateFault → Type 0

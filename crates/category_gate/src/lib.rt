@@ -36,7 +36,7 @@ pub enum GateFault {
     Rules(RulesFault),
     /// A law isn't met, or an item of it is too large.
     Law(Event),
-    /// There was no memory for the derived symbols.
+    /// There was no memory for the derived symbols. It comes only where the rules pass.
     Memory,
 }
 

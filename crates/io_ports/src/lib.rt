@@ -1,6 +1,7 @@
 //! The outside as the program sees it: texts by name that are read a piece at a time, and a sink
 //! of bytes. Both are traits, so that every promise above them can be stated and tried in memory.
 //!
+//! Glossary:
 //! - *shelf*: texts by name. It may tell its map of names to texts, and it counts faults by name
 //!   (`specs/Ports.antt`, [`Shelf`]).
 //! - *sink*: takes bytes. It may tell what it took, and it counts its faults ([`Sink`]).
