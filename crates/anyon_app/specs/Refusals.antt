@@ -1,5 +1,6 @@
 -- The lines of refusals and limits. Labels are written by name, other numbers in decimal digits.
-use Rattle.std.specs.Prelude.{ℕ, List, [], ◌∷◌, map, codes, decimal, slice_index_or}
+use Rattle.std.specs.Prelude.{ℕ, List, [], ◌∷◌, map, codes, decimal}
+use Rattle.fusion_rules.specs.Names.{name_of}
 use Rattle.fusion_rules.specs.declared.rules.RulesFault.{RulesFault}
 use Rattle.fusion_rules.specs.declared.rules.RulesFault.TheVariants.{NotCommutative, NotAssociative, NoSingleDual}
 use Rattle.symbol_table.specs.Laws.{form_of}
@@ -13,12 +14,9 @@ use Rattle.anyon_app.specs.Replies.{Reply}
 use Rattle.anyon_app.specs.Lines.{refusal_of, limit_of}
 use Rattle.anyon_app.specs.Causes.{category_cause}
 
--- the name of a label; a number that is no label has none
-abbrev pub label_name : List (List ℕ) → ℕ → List ℕ
-label_name names label = slice_index_or names label []
-
+-- the names of labels; a number that is no label has none
 abbrev pub label_names : List (List ℕ) → List ℕ → List (List ℕ)
-label_names names labels = map (label_name names) labels
+label_names names labels = map (name_of names) labels
 
 -- the word for a text of a kind
 abbrev pub kind_word : text.Kind → List ℕ

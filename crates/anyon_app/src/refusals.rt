@@ -1,7 +1,7 @@
 // The lines of refusals and limits.
 ghost use Rattle.std.specs.Prelude.{◌≡◌, ◌∷◌, IfOk};
 ghost use Rattle.anyon_app.specs.Stages.{StopsWith};
-ghost use Rattle.anyon_app.specs.Refusals.{category_line, event_line, event_words, label_name, not_built, refused_line, rules_line, too_long, turn_overflow};
+ghost use Rattle.anyon_app.specs.Refusals.{category_line, event_line, event_words, not_built, refused_line, rules_line, too_long, turn_overflow};
 ghost use Rattle.anyon_app.specs.Lines.{line_of};
 
 use crate::causes::category_words;
@@ -51,7 +51,7 @@ pub fn not_built(alloc: Global, kind: Kind) -> Stop
 pub fn rules_line(alloc: Global, names: &Names, fault: RulesFault) -> Stop
     ensures { StopsWith (rules_line names.now fault) result }
 {
-    let name = |label: u8| label_name(names, label);
+    let name = |label: u8| names.name_or_empty(label);
     match fault {
         RulesFault::NotCommutative(a, b, c) => {
             refusal(alloc, &["commutative", name(a), name(b), name(c)])
@@ -105,15 +105,4 @@ pub fn turn_overflow(alloc: Global, turn: u32) -> Stop
     let mut buffer = Buffer::new();
     let turn = buffer.format(turn);
     limit(alloc, &["overflow", "turn", turn])
-}
-
-/// The name of a label, empty for a number that is no label.
-pub fn label_name<'a>(names: &'a Names, label: u8) -> &'a str
-    ensures { result.now ≡ label_name names.now label }
-{
-    if label < names.count() {
-        names.name(label)
-    } else {
-        ""
-    }
 }

@@ -6,7 +6,6 @@ ghost use Rattle.anyon_app.specs.Refusals.{label_names};
 ghost use Rattle.anyon_app.specs.Report.{report_of, row_words};
 ghost use Rattle.comb_run.specs.Comb.{outcomes_in};
 
-use crate::refusals::label_name;
 use comb_run::{Row, Rows};
 use cyclo_core::Cyclo;
 use cyclo_text::write_number;
@@ -51,7 +50,7 @@ pub fn write_labels(names: &Names, labels: &[u8], out: &mut Vec<u8>) -> Result<(
     ensures { OnOk result (out.new.items ≡ out.old.items ++ spaced_on (label_names names.now labels.now)) }
 {
     for label in labels {
-        write_word(label_name(names, *label), out)?;
+        write_word(names.name_or_empty(*label), out)?;
     }
     Ok(())
 }
