@@ -1,18 +1,18 @@
 -- What the unit of a category does: its triples, its weights, and H from it.
-use Rattle.std.proofs.Common.{◌≡◌, ℕ, ◌<◌, ◌≤◌, Bool, true, false, [], ◌∷◌, refl, ap, sym, ◌∙◌, arith, inl, inr}
-use Rattle.std.specs.Prelude.{if◌then◌else◌, ◌&&◌, ◌==◌, nat_lt, IsTrue, All}
+use Rattle.std.proofs.Common.{◌≡◌, ℕ, ◌<◌, Bool, true, [], ◌∷◌, refl, ap, sym, ◌∙◌, arith, inl, inr}
+use Rattle.std.specs.Prelude.{if◌then◌else◌, ◌&&◌, ◌==◌, IsTrue, All}
 use Rattle.std.proofs.lemmas.List.Elements.{All-from_recursion}
-use Rattle.std.proofs.lemmas.Bool.Decides.{eqb_tells, leb_tells, nat_tests}
+use Rattle.std.proofs.lemmas.Bool.Decides.{eqb_tells, nat_tests}
 use Rattle.ring_laws.specs.Ring.{Ring, Held, RingLaws}
 use Rattle.ring_laws.proofs.SumLemmas.{if_no, if_yes, and_no, and_yes, and_right}
-use Rattle.fusion_rules.specs.Fusion.{Fusion, AreRules, fuses, are_labels}
+use Rattle.fusion_rules.specs.Fusion.{Fusion, AreRules, fuses}
 use Rattle.symbol_table.specs.Symbols.{Symbols, f_admissible}
 use Rattle.symbol_table.specs.Draft.{DraftValue}
 use Rattle.symbol_table.specs.Laws.{IsLawful}
 use Rattle.symbol_table.proofs.LawLemmas.{obeys}
+use Rattle.symbol_table.proofs.RuleLemmas.{fuse_labels, unit_left}
 use Rattle.symbol_table.specs.Category.{draft_symbols}
 use Rattle.symbol_table.specs.declared.law.Law.TheVariants.{UnitF, UnitW, InverseW}
-use Rattle.comb_laws.proofs.PathFacts.{and_true}
 
 -- one where a test is true, else zero
 abbrev pub mark : {E : Type 0} → Ring E → Bool → E
@@ -28,37 +28,9 @@ pub record IsUnital {E : Type 0} (c : Symbols E) : Type 0 where
 
 -- the rules of a draft
 module _ (g : Fusion) (rules : AreRules g) where
-  three : (a b e n : ℕ) → are_labels n a b e ≡ true → (a < n) × (b < n) × (e < n)
-  three a b e n h =
-      let first = and_true (nat_lt a n) (nat_lt b n && nat_lt e n) h in
-      let rest = and_true (nat_lt b n) (nat_lt e n) first.1 in
-      (below a first.0, below b rest.0, below e rest.1)
-    where
-      below : (m : ℕ) → nat_lt m n ≡ true → m < n
-      below m h = grind (arith, nat_tests)
-
-  fuse_labels : (a b e : ℕ) → fuses g a b e ≡ true → (a < g.count) × (b < g.count) × (e < g.count)
-  fuse_labels a b e h = three a b e g.count (and_true (are_labels g.count a b e) _ h).0
-
-  is_below : (m n : ℕ) → m < n → nat_lt m n ≡ true
-  is_below m n h = grind (arith, nat_tests)
-
-  is_above : (m n : ℕ) → n ≤ m → nat_lt m n ≡ false
-  is_above m n h = grind (arith, nat_tests)
-
-  apart : (b e : ℕ) → b < g.count → g.count ≤ e → false ≡ (b == e)
-  apart b e low high = grind (arith, nat_tests)
-
-  unit_fuse : (b e : ℕ) → b < g.count → fuses g 0 b e ≡ (b == e)
-  unit_fuse b e low =
-      elim (leb_tells g.count e) [
-        | inl out ↦ and_no (are_labels g.count 0 b e) _ (and_right (nat_lt 0 g.count) _ (and_right (nat_lt b g.count) _ (is_above e g.count out.1))) ∙ apart b e low out.1
-        | inr within ↦ rw (is_below 0 g.count rules.some, is_below b g.count low, is_below e g.count within.1) (rules.left_unit b e low within.1)
-      ]
-
   -- the unit times a label is that label
   pub unit_times : (a : ℕ) → a < g.count → fuses g 0 a a ≡ true
-  unit_times a low = unit_fuse a a low ∙ same
+  unit_times a low = unit_left g rules a a low ∙ same
     where
       same : (a == a) ≡ true
       same = grind (arith, nat_tests)
@@ -129,12 +101,12 @@ module _ {D E : Type 0} (ring : Ring E) (held : Held E) (laws : RingLaws ring he
       let low = fuse_labels draft.rules rules l r q is in
       elim (eqb_tells l f) [
         | inr n ↦
-            if_no (f_admissible c.fuse 0 l r e f q) _ _ (and_no (c.fuse 0 l f) _ (unit_fuse draft.rules rules l f low.0 ∙ n.0))
+            if_no (f_admissible c.fuse 0 l r e f q) _ _ (and_no (c.fuse 0 l f) _ (unit_left draft.rules rules l f low.0 ∙ n.0))
             ∙ sym (ap (mark ring) (and_no (l == f) (q == e) n.0))
         | inl left ↦ elim (eqb_tells q e) [
           | inr n ↦
               if_no (f_admissible c.fuse 0 l r e f q) _ _
-              (and_right (c.fuse 0 l f) _ (and_right (c.fuse f r e) _ (and_right (c.fuse l r q) _ (unit_fuse draft.rules rules q e low.2 ∙ n.0))))
+              (and_right (c.fuse 0 l f) _ (and_right (c.fuse f r e) _ (and_right (c.fuse l r q) _ (unit_left draft.rules rules q e low.2 ∙ n.0))))
               ∙ sym (ap (mark ring) (and_right (l == f) (q == e) n.0))
           | inl above ↦
               (λ j. c.h 0 l r (sym above.1 j) q (sym left.1 j))
@@ -147,7 +119,7 @@ module _ {D E : Type 0} (ring : Ring E) (held : Held E) (laws : RingLaws ring he
   is_unital = record {
     some = rules.some;
     labels = fuse_labels draft.rules rules;
-    unit = unit_fuse draft.rules rules;
+    unit = unit_left draft.rules rules;
     weight = unit_weight;
     h = unit_h;
   }

@@ -3,30 +3,13 @@ use Rattle.std.proofs.Common.{◌≡◌, ℕ, Bool, true, false, ◌&&◌, refl,
 use Rattle.ring_laws.specs.Ring.{Ring, Held, RingLaws}
 use Rattle.ring_laws.proofs.SumLemmas.{if_no, zero-product}
 use Rattle.symbol_table.specs.Symbols.{Given, f_admissible, f_of}
+use Rattle.symbol_table.proofs.Equations.{first_off, second_off, third_off, fourth_off}
 
 -- one of three tests fails
 pub one_of_three : {P : Type 0} (x y z : Bool) → (x ≡ false → P) → (y ≡ false → P) → (z ≡ false → P) → (x && (y && z)) ≡ false → P
 one_of_three false y z p q r e = p refl
 one_of_three true false z p q r e = q refl
 one_of_three true true z p q r e = r e
-
-pub first_off : (x y z u : Bool) → x ≡ false → (x && (y && (z && u))) ≡ false
-first_off x y z u e = rw e refl
-
-pub second_off : (x y z u : Bool) → y ≡ false → (x && (y && (z && u))) ≡ false
-second_off true y z u e = rw e refl
-second_off false y z u e = refl
-
-pub third_off : (x y z u : Bool) → z ≡ false → (x && (y && (z && u))) ≡ false
-third_off true true z u e = rw e refl
-third_off true false z u e = refl
-third_off false y z u e = refl
-
-pub fourth_off : (x y z u : Bool) → u ≡ false → (x && (y && (z && u))) ≡ false
-fourth_off true true true u e = e
-fourth_off true true false u e = refl
-fourth_off true false z u e = refl
-fourth_off false y z u e = refl
 
 module _ {E : Type 0} (ring : Ring E) (g : Given E) (a b c d e f : ℕ) where
   f_zero : f_admissible g.fuse a b c d e f ≡ false → f_of ring g a b c d e f ≡ ring.zero
