@@ -9,7 +9,7 @@ use Rattle.comb_laws.specs.Words.{operator_on}
 use Rattle.comb_laws.specs.declared.operator.Operator.TheVariants.{Exchange}
 use Rattle.comb_laws.specs.Plans.{rows_from, outcomes_of}
 use Rattle.comb_laws.specs.Inner.{inner_path_weight, inner_outcomes_of}
-use Rattle.program_text.specs.Letters.{Tested}
+use Rattle.program_text.specs.declared.letter.Letter.TheVariants.{Tested}
 use Rattle.program_text.specs.declared.plan.Command.TheVariants.{Braid, Measure}
 use Rattle.program_text.specs.declared.plan.Sign.TheVariants.{Plus, Minus}
 use Rattle.symbol_table.proofs.Fib.{Whole5, num, fib, numbered, whole, ring5, held5, v_listed, inverse_golden}

@@ -10,7 +10,8 @@ use Rattle.comb_laws.specs.Operators.{weights_along}
 use Rattle.comb_laws.specs.Amplitudes.{own_vector}
 use Rattle.comb_laws.specs.Words.{word_state, comb_acts}
 use Rattle.comb_laws.specs.Plans.{Outcomes, words}
-use Rattle.program_text.specs.Letters.{Letter, measurements, letters}
+use Rattle.program_text.specs.Letters.{measurements, letters}
+use Rattle.program_text.specs.declared.letter.Letter.{Letter}
 use Rattle.program_text.specs.declared.plan.Command.{Command}
 
 -- w(x_1,s_2,x_2) .. w(x_(n-1),s_n,x_n), begun at one

@@ -3,7 +3,8 @@ use Rattle.std.specs.Prelude.{ℕ, zero, suc, not, List, [], ◌∷◌, map}
 use Rattle.std.specs.List.{flat_map, filter}
 use Rattle.symbol_table.specs.Symbols.{Symbols}
 use Rattle.tree_shapes.specs.Labelled.{Labelled, leaves}
-use Rattle.program_text.specs.Letters.{Letter, measurements, letters}
+use Rattle.program_text.specs.Letters.{measurements, letters}
+use Rattle.program_text.specs.declared.letter.Letter.{Letter}
 use Rattle.program_text.specs.declared.plan.Command.{Command}
 use Rattle.comb_laws.specs.Paths.{Vector, labels}
 use Rattle.comb_laws.specs.Operators.{weight}

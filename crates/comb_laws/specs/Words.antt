@@ -1,7 +1,9 @@
 -- The state of a word of outcomes under letters: the strands, and a vector over them.
 use Rattle.std.specs.Prelude.{ℕ, ◌==◌, if◌then◌else◌, slice_index, List, [], ◌∷◌, Option, Some, None}
 use Rattle.symbol_table.specs.Symbols.{Symbols}
-use Rattle.program_text.specs.Letters.{Letter, Crossing, Charge, Tested, Still, gap_of}
+use Rattle.program_text.specs.Letters.{gap_of}
+use Rattle.program_text.specs.declared.letter.Letter.{Letter}
+use Rattle.program_text.specs.declared.letter.Letter.TheVariants.{Crossing, Charge, Tested, Still}
 use Rattle.comb_laws.specs.Paths.{Vector}
 use Rattle.comb_laws.specs.Operators.{kernel_of, strands_after, acted}
 use Rattle.comb_laws.specs.declared.operator.Operator.{Operator}

@@ -4,7 +4,8 @@ use Rattle.std.specs.Fmt.{digits}
 use Rattle.tree_shapes.specs.Labelled.{Strand, Joined}
 use Rattle.program_text.specs.declared.plan.Sign.TheVariants.{Minus}
 use Rattle.program_text.specs.declared.plan.Command.TheVariants.{Braid, Raise, Measure}
-use Rattle.program_text.specs.Letters.{Crossing, Charge, Still, letters}
+use Rattle.program_text.specs.Letters.{letters}
+use Rattle.program_text.specs.declared.letter.Letter.TheVariants.{Crossing, Charge, Still}
 use Rattle.program_text.specs.Program.{Program}
 use Rattle.program_text.specs.Canonical.{canonical_program}
 use Rattle.program_text.specs.Reading.{comb_program_of, main_program}

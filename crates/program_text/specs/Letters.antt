@@ -1,19 +1,10 @@
 -- Letters: what each command does to the vector of a word of outcomes. The outcome of a measurement stands in the word
 -- at the measurement's place, so a letter says by itself which outcome it reads, whatever the order of the turns.
 use Rattle.std.specs.Prelude.{ℕ, suc, ◌+◌, List, [], ◌∷◌}
-use Rattle.program_text.specs.declared.plan.Sign.{Sign}
 use Rattle.program_text.specs.declared.plan.Command.{Command}
 use Rattle.program_text.specs.declared.plan.Command.TheVariants.{Braid, Raise, Measure}
-
-pub data Letter : Type 0 where
-  -- an exchange at gap k
-  Crossing : (k : ℕ) (sign : Sign) → Letter
-  -- a measurement of the charge at gap k, whose outcome stands at the place
-  Charge : (k place : ℕ) → Letter
-  -- an exchange at gap k on the words that have the label at the place
-  Tested : (k : ℕ) (sign : Sign) (place label : ℕ) → Letter
-  -- a raise at gap k, which no vector sees
-  Still : (k : ℕ) → Letter
+use Rattle.program_text.specs.declared.letter.Letter.{Letter}
+use Rattle.program_text.specs.declared.letter.Letter.TheVariants.{Crossing, Charge, Tested, Still}
 
 -- the gap of a letter
 abbrev pub gap_of : Letter → ℕ

@@ -15,12 +15,14 @@ mod comb;
 mod commands;
 mod form;
 mod laws;
+mod letter;
 mod plan;
 mod reading;
 mod start;
 mod writing;
 
 pub use laws::comb_texts;
+pub use letter::Letter;
 pub use plan::{Command, Plan, Sign, Site};
 pub use reading::read_comb_program;
 

@@ -1,0 +1,59 @@
+-- The turns of commands, one after another.
+use Rattle.std.proofs.Common.{◌≡◌, ℕ, suc, ◌+◌, ◌<◌, ◌≤◌, List, [], ◌∷◌, length, get_or, drop, replicate, refl, ap, sym, subst, ◌∙◌, arith, drop-cons}
+use Rattle.std.specs.Prelude.{Result, Ok}
+use Rattle.std.specs.List.{AllByRecursion}
+use Rattle.std.proofs.lemmas.List.{length-replicate}
+use Rattle.program_text.specs.Letters.{gap_of, letter_at, letters, outcomes_of, measurements}
+use Rattle.program_text.specs.declared.letter.Letter.{Letter}
+use Rattle.program_text.specs.declared.plan.Command.{Command}
+use Rattle.program_text.specs.declared.plan.Command.TheVariants.{Braid, Raise, Measure}
+use Rattle.word_runs.specs.Told.{Told, IsGap}
+use Rattle.word_runs.specs.Runs.{Live, turn_of, run_of, ◌>>>◌, Stops}
+use Rattle.word_runs.specs.Lives.{AreAlike, IsFit, IsPlaceBelow}
+use Rattle.word_runs.specs.declared.fault.RunFault.{RunFault}
+use Rattle.word_runs.proofs.StepLemmas.{stops_on}
+
+pub next_command : (commands : List Command) (i : ℕ) (d : Command) → i < length commands → drop i commands ≡ get_or commands i d ∷ drop (i + 1) commands
+next_command commands i d h = let e : suc i ≡ i + 1 = omega arith in drop-cons commands i d h ∙ ap (λ j. get_or commands i d ∷ drop j commands) e
+
+-- how many measurements there are with a command in front
+pub measurements_more : (c : Command) (cs : List Command) → measurements (c ∷ cs) ≡ outcomes_of c + measurements cs
+measurements_more (Braid k sign) cs = omega arith
+measurements_more (Raise k) cs = omega arith
+measurements_more (Measure k) cs = omega arith
+
+-- a command has at most one
+pub outcomes_few : (c : Command) → outcomes_of c ≤ 1
+outcomes_few (Braid k sign) = omega arith
+outcomes_few (Raise k) = omega arith
+outcomes_few (Measure k) = omega arith
+
+module _ {M T : Type 0} (e : Told M T) where
+  letter_fit : (m p : ℕ) (c : Command) (cs : List Command) → p + measurements (c ∷ cs) ≤ m → IsGap e (gap_of (letter_at p c)) → IsFit e m (letter_at p c)
+  letter_fit m p (Braid k sign) cs low gap = record { gap = gap; place = tt }
+  letter_fit m p (Raise k) cs low gap = record { gap = gap; place = tt }
+  letter_fit m p (Measure k) cs low gap = let here : p < m = omega arith in record { gap = gap; place = here }
+
+  -- letters at gaps are fit for words of as many places as there are measurements
+  pub letters_fit : (m p : ℕ) (cs : List Command) → p + measurements cs ≤ m → AllByRecursion (λ l. IsGap e (gap_of l)) (letters p cs) → AllByRecursion (IsFit e m) (letters p cs)
+  letters_fit m p [] low gaps = tt
+  letters_fit m p (c ∷ cs) low gaps =
+      let more = measurements_more c cs in
+      (letter_fit m p c cs low gaps.0, letters_fit m (p + outcomes_of c) cs (omega (arith, more)) gaps.1)
+
+  -- a turn that ends hands on what the turns behind it see
+  pub turn_more : (turn place : ℕ) (c : Command) (cs : List Command) (old new : List (Live M)) (stated : Result (List (Live M)) RunFault)
+      → turn_of e turn (letter_at place c) old ≡ Ok new
+      → run_of e turn (letters place (c ∷ cs)) old ≡ stated → run_of e (turn + 1) (letters (place + outcomes_of c) cs) new ≡ stated
+  turn_more turn place c cs old new stated h s = sym (ap (λ r. r >>> run_of e (turn + 1) (letters (place + outcomes_of c) cs)) h) ∙ s
+
+  -- a turn that stops is the stop of the run
+  pub turn_stops : (turn place : ℕ) (c : Command) (cs : List Command) (old : List (Live M)) (fault : RunFault) (stated : Result (List (Live M)) RunFault)
+      → Stops fault (turn_of e turn (letter_at place c) old)
+      → run_of e turn (letters place (c ∷ cs)) old ≡ stated → Stops fault stated
+  turn_stops turn place c cs old fault stated h s =
+      subst (Stops fault) s (stops_on fault (turn_of e turn (letter_at place c) old) (run_of e (turn + 1) (letters (place + outcomes_of c) cs)) h)
+
+  -- the one live word at the beginning
+  pub one_alike : (m : ℕ) (s : M) → AreAlike e m (record { word = replicate m 0; state = s } ∷ [])
+  one_alike m s = record { shape = e.shape s; same = (refl, tt); long = (length-replicate m 0, tt) }
