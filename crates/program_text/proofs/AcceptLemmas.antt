@@ -8,6 +8,7 @@ use Rattle.line_text.specs.Text.{Found, reading_of, word_in}
 use Rattle.line_text.specs.Spelling.{spaced, spelled}
 use Rattle.fusion_rules.specs.Names.{label_of}
 use Rattle.tree_shapes.specs.Labelled.{Labelled, Strand, Joined, size, is_left_comb, is_admissible}
+use Rattle.program_text.specs.declared.form.TheConstants.{COMB_STRANDS}
 use Rattle.program_text.specs.declared.plan.Command.{Command}
 use Rattle.program_text.specs.Program.{Program}
 use Rattle.fusion_rules.specs.Names.{name_of}
@@ -63,7 +64,7 @@ joined_is names tree (w ∷ ws) t n is e = by_joint (joint_of names w) refl (λ 
 
 pub record IsReadStart (count : ℕ) (t : Labelled) : Type 0 where
   pub some : 2 ≤ size t
-  pub few : size t ≤ 16
+  pub few : size t ≤ COMB_STRANDS
   pub comb : is_left_comb t ≡ true
   pub below : labels_below count t ≡ true
 
@@ -182,7 +183,7 @@ pub main_is : (names : List (List ℕ)) (count : ℕ) (fuse : ℕ → ℕ → �
     → is_comb_program fuse count (main_program t commands) ≡ (is_admissible fuse t && are_comb_commands strands commands)
 main_is names count fuse t commands strands counts is counted =
     let some : nat_le 2 (size t) ≡ true = (let s = is.some in grind (arith, nat_tests)) in
-    let few : nat_le (size t) 16 ≡ true = (let s = is.few in grind (arith, nat_tests)) in
+    let few : nat_le (size t) COMB_STRANDS ≡ true = (let s = is.few in grind (arith, nat_tests)) in
     let below : labels_below count t ≡ true = ap (λ (n : ℕ). labels_below n t) (sym counts) ∙ is.below in
     let start : is_comb_start fuse count t ≡ is_admissible fuse t = rw (some, few, is.comb, below) refl in
     main_form fuse count t commands ∙ rw (start, counted) refl

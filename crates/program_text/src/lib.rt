@@ -20,6 +20,7 @@ mod reading;
 mod start;
 mod writing;
 
+pub use form::{COMB_STRANDS, COMMAND_LIMIT};
 pub use laws::comb_texts;
 pub use plan::{Command, Plan, Sign, Site};
 pub use reading::read_comb_program;
