@@ -1,22 +1,20 @@
 -- What a text is read to, judged by its form and its spelling.
-use Rattle.std.proofs.Common.{◌≡◌, ℕ, suc, ◌+◌, ◌<◌, ◌≤◌, List, [], ◌∷◌, ◌++◌, Bool, true, false, ◌&&◌, ltb, length, map, take, drop, position, refl, sym, ap, subst, ◌∙◌, arith, append_assoc, codes, if◌then◌else◌, Option, Some, None}
+use Rattle.std.proofs.Common.{◌≡◌, ℕ, suc, ◌+◌, ◌<◌, ◌≤◌, List, [], ◌∷◌, Bool, true, false, ◌&&◌, ltb, length, take, drop, position, refl, sym, ap, subst, ◌∙◌, arith, if◌then◌else◌, Option, Some, None}
 use Rattle.std.specs.Prelude.{nat_le}
 use Rattle.std.specs.Str.{bytes_eq}
 use Rattle.std.proofs.lemmas.Bool.Decides.{nat_tests}
 use Rattle.std.proofs.lemmas.List.{length-drop}
 use Rattle.line_text.specs.Text.{Found, reading_of, word_in}
-use Rattle.line_text.specs.Spelling.{spaced, spelled}
 use Rattle.fusion_rules.specs.Names.{label_of}
 use Rattle.tree_shapes.specs.Labelled.{Labelled, Strand, Joined, size, is_left_comb, is_admissible}
+use Rattle.program_text.specs.declared.form.TheConstants.{COMB_STRANDS}
 use Rattle.program_text.specs.declared.plan.Command.{Command}
 use Rattle.program_text.specs.Program.{Program}
-use Rattle.fusion_rules.specs.Names.{name_of}
-use Rattle.program_text.specs.Canonical.{opened, closed, tree_words, command_words, canonical_program}
+use Rattle.program_text.specs.Canonical.{canonical_program}
 use Rattle.program_text.specs.Form.{labels_below, are_comb_commands, is_comb_start, is_comb_program}
 use Rattle.program_text.specs.Reading.{◌>>=◌, has_strands, without_opens, is_close, joint_of, joined_by, comb_of, start_of, first_line, commands_from, main_program, candidate, comb_program_of}
-use Rattle.program_text.specs.Parts.{tree_text, main_text}
 use Rattle.fusion_rules.proofs.FoundLemmas.{label_below}
-use Rattle.program_text.proofs.FormLemmas.{main_form, main_spelled}
+use Rattle.program_text.proofs.FormLemmas.{main_form}
 use Rattle.program_text.proofs.StartLemmas.{strands_are}
 
 -- a tree that was read from words
@@ -63,7 +61,7 @@ joined_is names tree (w ∷ ws) t n is e = by_joint (joint_of names w) refl (λ 
 
 pub record IsReadStart (count : ℕ) (t : Labelled) : Type 0 where
   pub some : 2 ≤ size t
-  pub few : size t ≤ 16
+  pub few : size t ≤ COMB_STRANDS
   pub comb : is_left_comb t ≡ true
   pub below : labels_below count t ≡ true
 
@@ -103,61 +101,6 @@ candidate_start names found p e = by_header (first_line found) e
     by_header None e = absurd (cc)
     by_header (Some header) e = by_line (first_line header.1) e
 
--- Words of a tree, spelled.
-
-spaced_append : (w : List ℕ) (ws ys : List (List ℕ)) → 0 < length ys → spaced ((w ∷ ws) ++ ys) ≡ spaced (w ∷ ws) ++ 32 ∷ spaced ys
-spaced_append w [] [] some = absurd (omega arith)
-spaced_append w [] (y ∷ ys) some = refl
-spaced_append w (v ∷ ws) ys some = ap (λ l. w ++ 32 ∷ l) (spaced_append v ws ys some) ∙ sym (append_assoc w (32 ∷ spaced (v ∷ ws)) (32 ∷ spaced ys))
-
-spaced_opened : (w : List ℕ) (ws : List (List ℕ)) → spaced (opened (w ∷ ws)) ≡ 40 ∷ spaced (w ∷ ws)
-spaced_opened w [] = refl
-spaced_opened w (v ∷ ws) = refl
-
-spaced_closed : (w : List ℕ) (ws : List (List ℕ)) (tail : List ℕ) → spaced (closed (w ∷ ws) tail) ≡ spaced (w ∷ ws) ++ tail
-spaced_closed w [] tail = refl
-spaced_closed w (v ∷ []) tail = sym (append_assoc w (32 ∷ v) tail)
-spaced_closed w (v ∷ u ∷ ws) tail = ap (λ l. w ++ 32 ∷ l) (spaced_closed v (u ∷ ws) tail) ∙ sym (append_assoc w (32 ∷ spaced (v ∷ u ∷ ws)) tail)
-
-some_closed : (w : List ℕ) (ws : List (List ℕ)) (tail : List ℕ) → 0 < length (closed (w ∷ ws) tail)
-some_closed w [] tail = omega arith
-some_closed w (v ∷ ws) tail = omega arith
-
-some_words : (names : List (List ℕ)) (t : Labelled) → 0 < length (tree_words names t)
-some_words names (Strand a) = omega arith
-some_words names (Joined l r q) = by_words (tree_words names l) (some_words names l)
-  where
-    by_words : (xs : List (List ℕ)) → 0 < length xs → 0 < length (opened xs ++ closed (tree_words names r) (41 ∷ 58 ∷ name_of names q))
-    by_words [] some = absurd (omega arith)
-    by_words (x ∷ xs) some = omega arith
-
--- the words of a tree are its text
-words_text : (names : List (List ℕ)) (t : Labelled) → spaced (tree_words names t) ≡ tree_text names t
-words_text names (Strand a) = refl
-words_text names (Joined l r q) = by_words (tree_words names l) (tree_words names r) (some_words names l) (some_words names r) (words_text names l) (words_text names r)
-  where
-    by_words : (xs ys : List (List ℕ)) → 0 < length xs → 0 < length ys → spaced xs ≡ tree_text names l → spaced ys ≡ tree_text names r
-        → spaced (opened xs ++ closed ys (41 ∷ 58 ∷ name_of names q)) ≡ 40 ∷ (tree_text names l ++ 32 ∷ (tree_text names r ++ 41 ∷ 58 ∷ name_of names q))
-    by_words [] ys some_xs some_ys left right = absurd (omega arith)
-    by_words (x ∷ xs) [] some_xs some_ys left right = absurd (omega arith)
-    by_words (x ∷ xs) (y ∷ ys) some_xs some_ys left right =
-        let tail : List ℕ = 41 ∷ 58 ∷ name_of names q in
-        spaced_append (40 ∷ x) xs (closed (y ∷ ys) tail) (some_closed y ys tail)
-        ∙ ap (λ l. l ++ 32 ∷ spaced (closed (y ∷ ys) tail)) (spaced_opened x xs)
-        ∙ ap (λ l. 40 ∷ (l ++ 32 ∷ spaced (closed (y ∷ ys) tail))) left
-        ∙ ap (λ k. 40 ∷ (tree_text names l ++ 32 ∷ k)) (spaced_closed y ys tail ∙ ap (λ k. k ++ tail) right)
-
-start_text : (names : List (List ℕ)) (t : Labelled) → spaced (codes "start" ∷ tree_words names t) ≡ codes "start " ++ tree_text names t
-start_text names t = by_words (tree_words names t) (some_words names t) (words_text names t)
-  where
-    by_words : (ws : List (List ℕ)) → 0 < length ws → spaced ws ≡ tree_text names t → spaced (codes "start" ∷ ws) ≡ codes "start " ++ tree_text names t
-    by_words [] some e = absurd (omega arith)
-    by_words (w ∷ ws) some e = ap (λ l. codes "start" ++ 32 ∷ l) e
-
-pub text_is : (names : List (List ℕ)) (t : Labelled) (commands : List Command) → canonical_program names (main_program t commands) ≡ main_text names t commands
-text_is names t commands =
-    main_spelled names t commands ∙ ap (λ (line : List ℕ). codes "program 1\n" ++ (line ++ 10 ∷ spelled (map command_words commands))) (start_text names t)
-
 pub refused : (names : List (List ℕ)) (count : ℕ) (fuse : ℕ → ℕ → ℕ → Bool) (bytes : List ℕ) (p : Program) → candidate names (reading_of 0 bytes).ahead ≡ Some p → bytes_eq (canonical_program names p) bytes ≡ false
     → comb_program_of names count fuse bytes ≡ None
 unfolding comb_program_of
@@ -182,7 +125,7 @@ pub main_is : (names : List (List ℕ)) (count : ℕ) (fuse : ℕ → ℕ → �
     → is_comb_program fuse count (main_program t commands) ≡ (is_admissible fuse t && are_comb_commands strands commands)
 main_is names count fuse t commands strands counts is counted =
     let some : nat_le 2 (size t) ≡ true = (let s = is.some in grind (arith, nat_tests)) in
-    let few : nat_le (size t) 16 ≡ true = (let s = is.few in grind (arith, nat_tests)) in
+    let few : nat_le (size t) COMB_STRANDS ≡ true = (let s = is.few in grind (arith, nat_tests)) in
     let below : labels_below count t ≡ true = ap (λ (n : ℕ). labels_below n t) (sym counts) ∙ is.below in
     let start : is_comb_start fuse count t ≡ is_admissible fuse t = rw (some, few, is.comb, below) refl in
     main_form fuse count t commands ∙ rw (start, counted) refl

@@ -11,6 +11,7 @@ use Rattle.line_text.specs.Spelling.{spelled, IsPlainLine, ArePlainLines, counte
 use Rattle.line_text.proofs.SpellingLemmas.{found_again, words_again}
 use Rattle.fusion_rules.specs.Names.{AreNames}
 use Rattle.tree_shapes.specs.Labelled.{Labelled, size, is_left_comb, is_admissible}
+use Rattle.program_text.specs.declared.form.TheConstants.{COMB_STRANDS, COMMAND_LIMIT}
 use Rattle.program_text.specs.declared.plan.Sign.TheVariants.{Plus, Minus}
 use Rattle.program_text.specs.declared.plan.Command.{Command}
 use Rattle.program_text.specs.declared.plan.Command.TheVariants.{Braid, Raise, Measure}
@@ -28,15 +29,15 @@ same_number n = grind (arith, nat_tests)
 
 pub record IsStart (fuse : ℕ → ℕ → ℕ → Bool) (count : ℕ) (t : Labelled) : Type 0 where
   pub some : 2 ≤ size t
-  pub few : size t ≤ 16
+  pub few : size t ≤ COMB_STRANDS
   pub comb : is_left_comb t ≡ true
   pub below : labels_below count t ≡ true
   pub admissible : is_admissible fuse t ≡ true
 
 pub start_is : (fuse : ℕ → ℕ → ℕ → Bool) (count : ℕ) (t : Labelled) → is_comb_start fuse count t ≡ true → IsStart fuse count t
-start_is fuse count t is = by_tests (nat_le 2 (size t)) (nat_le (size t) 16) (is_left_comb t) (labels_below count t) (is_admissible fuse t) refl refl refl refl refl is
+start_is fuse count t is = by_tests (nat_le 2 (size t)) (nat_le (size t) COMB_STRANDS) (is_left_comb t) (labels_below count t) (is_admissible fuse t) refl refl refl refl refl is
   where
-    by_tests : (some few comb below admissible : Bool) → nat_le 2 (size t) ≡ some → nat_le (size t) 16 ≡ few → is_left_comb t ≡ comb → labels_below count t ≡ below → is_admissible fuse t ≡ admissible
+    by_tests : (some few comb below admissible : Bool) → nat_le 2 (size t) ≡ some → nat_le (size t) COMB_STRANDS ≡ few → is_left_comb t ≡ comb → labels_below count t ≡ below → is_admissible fuse t ≡ admissible
         → (some && (few && (comb && (below && admissible)))) ≡ true → IsStart fuse count t
     by_tests false few comb below admissible e f g h i is = absurd (cc)
     by_tests true false comb below admissible e f g h i is = absurd (cc)
@@ -93,10 +94,10 @@ unfolding canonical_program
 main_spelled names t commands = rw (same_number (size t)) refl
 
 -- the commands of the form are read
-gap_small : (strands gap : ℕ) → strands ≤ 16 → is_gap strands gap ≡ true → gap < 16
+gap_small : (strands gap : ℕ) → strands ≤ COMB_STRANDS → is_gap strands gap ≡ true → gap < COMB_STRANDS
 gap_small strands gap few is = let h = both (ltb 0 gap) (ltb gap strands) is in grind (arith, nat_tests)
 
-pub all_read : (strands : ℕ) (commands : List Command) → strands ≤ 16 → is_measured_braid strands commands ≡ true → AllRead commands
+pub all_read : (strands : ℕ) (commands : List Command) → strands ≤ COMB_STRANDS → is_measured_braid strands commands ≡ true → AllRead commands
 all_read strands [] few is = tt
 all_read strands (Braid gap sign ∷ cs) few is = let h = both (is_gap strands gap) (is_measured_braid strands cs) is in (omega (arith, gap_small strands gap few h.0), all_read strands cs few h.1)
 all_read strands (Raise gap ∷ cs) few is = absurd (cc)
@@ -113,7 +114,7 @@ command_lines : (commands : List Command) → AllRead commands → ArePlainLines
 command_lines [] all = tt
 command_lines (c ∷ cs) all = (command_line c all.0, command_lines cs all.1)
 
-start_line : (names : List (List ℕ)) (t : Labelled) → size t ≤ 16 → 2 ≤ size t → AreTreeWords (tree_words names t) (size t) → IsPlainLine (codes "start" ∷ tree_words names t)
+start_line : (names : List (List ℕ)) (t : Labelled) → size t ≤ COMB_STRANDS → 2 ≤ size t → AreTreeWords (tree_words names t) (size t) → IsPlainLine (codes "start" ∷ tree_words names t)
 start_line names t few some are = by_words (tree_words names t) are
   where
     by_words : (words : List (List ℕ)) → AreTreeWords words (size t) → IsPlainLine (codes "start" ∷ words)
@@ -136,14 +137,14 @@ candidate_again names t commands fuse are is all =
     start =
         let words = comb_words names t are is.comb is.below in
         let some : ltb 2 (length (codes "start" ∷ tree_words names t)) ≡ true = (let c = words.count in let s = is.some in grind (arith, nat_tests)) in
-        let few : nat_le (length (codes "start" ∷ tree_words names t)) 17 ≡ true = (let c = words.count in let s = is.few in grind (arith, nat_tests)) in
+        let few : nat_le (length (codes "start" ∷ tree_words names t)) (COMB_STRANDS + 1) ≡ true = (let c = words.count in let s = is.few in grind (arith, nat_tests)) in
         rw (some, few) (start_again names t are is.comb is.below)
 
 pub complete : CombComplete
 unfolding comb_program_of
 complete names fuse p are is =
     let comb = comb_is fuse (length names) p is in
-    let read = all_read (size p.start) comb.commands comb.start.few (both (nat_le (length comb.commands) 4096) (is_measured_braid (size p.start) comb.commands) comb.allowed).1 in
+    let read = all_read (size p.start) comb.commands comb.start.few (both (nat_le (length comb.commands) COMMAND_LIMIT) (is_measured_braid (size p.start) comb.commands) comb.allowed).1 in
     let text : canonical_program names p ≡ spelled (main_lines names p.start comb.commands) = ap (canonical_program names) comb.same ∙ main_spelled names p.start comb.commands in
     let found : candidate names (reading_of 0 (canonical_program names p)).ahead ≡ Some p =
     ap (λ (bytes : List ℕ). candidate names (reading_of 0 bytes).ahead) text ∙ candidate_again names p.start comb.commands fuse are comb.start read ∙ ap Some (sym comb.same) in

@@ -7,16 +7,17 @@ use Rattle.std.proofs.lemmas.Option.{slice_get_within, get_or_from_slice_get}
 use Rattle.line_text.specs.Text.{word_in}
 use Rattle.fusion_rules.specs.Names.{label_of}
 use Rattle.tree_shapes.specs.Labelled.{Labelled, Strand, Joined}
+use Rattle.program_text.specs.declared.form.TheConstants.{COMB_STRANDS}
 use Rattle.program_text.specs.Reading.{◌>>=◌, has_strands, without_opens, joint_of, joined_by, start_of}
 use Rattle.program_text.proofs.WordLemmas.{both}
 
 pub record IsCounted (words : List (List ℕ)) : Type 0 where
   pub some : 2 < length words
-  pub few : length words ≤ 17
+  pub few : length words ≤ COMB_STRANDS + 1
 
 pub strands_are : (words : List (List ℕ)) → has_strands words ≡ true → IsCounted words
 strands_are words has =
-    let h = both (ltb 2 (length words)) (nat_le (length words) 17) has in
+    let h = both (ltb 2 (length words)) (nat_le (length words) (COMB_STRANDS + 1)) has in
     record { some = grind (arith, nat_tests); few = grind (arith, nat_tests) }
 
 here : (words : List (List ℕ)) (place : ℕ) (text : List ℕ) → slice_get words place ≡ Some text → drop place words ≡ text ∷ drop (place + 1) words

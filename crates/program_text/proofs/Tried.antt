@@ -2,6 +2,7 @@
 use Rattle.std.proofs.Common.{◌≡◌, ℕ, List, [], ◌∷◌, Bool, true, refl, Some, None, codes}
 use Rattle.std.specs.Fmt.{digits}
 use Rattle.tree_shapes.specs.Labelled.{Strand, Joined}
+use Rattle.program_text.specs.declared.form.TheConstants.{COMB_STRANDS, COMMAND_LIMIT}
 use Rattle.program_text.specs.declared.plan.Sign.TheVariants.{Minus}
 use Rattle.program_text.specs.declared.plan.Command.TheVariants.{Braid, Raise, Measure}
 use Rattle.program_text.specs.Letters.{letters}
@@ -9,6 +10,10 @@ use Rattle.program_text.specs.declared.letter.Letter.TheVariants.{Crossing, Char
 use Rattle.program_text.specs.Program.{Program}
 use Rattle.program_text.specs.Canonical.{canonical_program}
 use Rattle.program_text.specs.Reading.{comb_program_of, main_program}
+
+-- the limits of the form
+limits : (COMB_STRANDS ≡ 16) × (COMMAND_LIMIT ≡ 4096)
+limits = (refl, refl)
 
 names : List (List ℕ)
 names = codes "1" ∷ codes "t" ∷ []

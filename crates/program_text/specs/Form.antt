@@ -1,6 +1,7 @@
 -- Programs of one site on a left-combed tree, with one measurement at the end.
 use Rattle.std.specs.Prelude.{ℕ, List, [], ◌∷◌, Bool, false, ◌&&◌, nat_lt, nat_le, length}
 use Rattle.tree_shapes.specs.Labelled.{Labelled, Strand, Joined, size, is_left_comb, is_admissible}
+use Rattle.program_text.specs.declared.form.TheConstants.{COMB_STRANDS, COMMAND_LIMIT}
 use Rattle.program_text.specs.declared.plan.Command.{Command}
 use Rattle.program_text.specs.declared.plan.Command.TheVariants.{Braid, Raise, Measure}
 use Rattle.program_text.specs.Program.{Program, ProgramSite}
@@ -11,10 +12,10 @@ abbrev pub labels_below : ℕ → Labelled → Bool
 labels_below count (Strand a) = nat_lt a count
 labels_below count (Joined l r q) = nat_lt q count && (labels_below count l && labels_below count r)
 
--- a left-combed tree of 2 to 16 strands, with labels of the category and admissible nodes
+-- a left-combed tree of 2 to COMB_STRANDS strands, with labels of the category and admissible nodes
 abbrev pub is_comb_start : (ℕ → ℕ → ℕ → Bool) → ℕ → Labelled → Bool
 is_comb_start fuse count start =
-    nat_le 2 (size start) && (nat_le (size start) 16 && (is_left_comb start && (labels_below count start && is_admissible fuse start)))
+    nat_le 2 (size start) && (nat_le (size start) COMB_STRANDS && (is_left_comb start && (labels_below count start && is_admissible fuse start)))
 
 -- a gap between two of so many strands
 abbrev pub is_gap : ℕ → ℕ → Bool
@@ -28,9 +29,9 @@ is_measured_braid strands (Raise gap ∷ commands) = false
 is_measured_braid strands (Measure gap ∷ []) = is_gap strands gap
 is_measured_braid strands (Measure gap ∷ next ∷ commands) = false
 
--- at most 4,096 commands, of this kind
+-- at most COMMAND_LIMIT commands, of this kind
 abbrev pub are_comb_commands : ℕ → List Command → Bool
-are_comb_commands strands commands = nat_le (length commands) 4096 && is_measured_braid strands commands
+are_comb_commands strands commands = nat_le (length commands) COMMAND_LIMIT && is_measured_braid strands commands
 
 -- the one site `main` with all strands, and such commands
 abbrev pub are_comb_sites : ℕ → List ProgramSite → Bool
@@ -38,7 +39,7 @@ are_comb_sites strands [] = false
 are_comb_sites strands (site ∷ []) = is_main strands site && are_comb_commands strands site.commands
 are_comb_sites strands (site ∷ next ∷ sites) = false
 
--- A program with the one site `main`: an admissible left-combed start of 2 to 16 strands with labels below the count,
--- no raise, at most 4,096 commands, and exactly one measurement, which is the last; every gap is one of the start's.
+-- A program with the one site `main`: an admissible left-combed start of 2 to COMB_STRANDS strands with labels below the count,
+-- no raise, at most COMMAND_LIMIT commands, and exactly one measurement, which is the last; every gap is one of the start's.
 abbrev pub is_comb_program : (ℕ → ℕ → ℕ → Bool) → ℕ → Program → Bool
 is_comb_program fuse count p = is_comb_start fuse count p.start && are_comb_sites (size p.start) p.sites

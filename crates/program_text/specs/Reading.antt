@@ -1,10 +1,11 @@
 -- The program that a text is.
-use Rattle.std.specs.Prelude.{ℕ, List, [], ◌∷◌, ◌++◌, Bool, ◌&&◌, ◌==◌, nat_lt, nat_le, length, position, take, drop, codes, if◌then◌else◌, Option, Some, None}
+use Rattle.std.specs.Prelude.{ℕ, ◌+◌, List, [], ◌∷◌, ◌++◌, Bool, ◌&&◌, ◌==◌, nat_lt, nat_le, length, position, take, drop, codes, if◌then◌else◌, Option, Some, None}
 use Rattle.std.specs.Str.{bytes_eq}
 use Rattle.line_text.specs.Text.{Found, Counted, Faulty, reading_of, words_of, word_in, has_word}
 use Rattle.line_text.specs.Plain.{plain_number_of}
 use Rattle.fusion_rules.specs.Names.{label_of}
 use Rattle.tree_shapes.specs.Labelled.{Labelled, Strand, Joined, size}
+use Rattle.program_text.specs.declared.form.TheConstants.{COMB_STRANDS}
 use Rattle.program_text.specs.declared.plan.Sign.{Sign}
 use Rattle.program_text.specs.declared.plan.Sign.TheVariants.{Plus, Minus}
 use Rattle.program_text.specs.declared.plan.Command.{Command}
@@ -43,9 +44,9 @@ joined_by names tree (text ∷ words) = do
   joint ← joint_of names text
   joined_by names (Joined tree (Strand joint.0) joint.1) words
 
--- whether 2 to 16 words stand behind the first
+-- whether 2 to COMB_STRANDS words stand behind the first
 abbrev pub has_strands : List (List ℕ) → Bool
-has_strands words = nat_lt 2 (length words) && nat_le (length words) 17
+has_strands words = nat_lt 2 (length words) && nat_le (length words) (COMB_STRANDS + 1)
 
 -- the left-combed tree of these words, with a word for each strand
 abbrev pub comb_of : List (List ℕ) → List (List ℕ) → Option Labelled
@@ -53,7 +54,7 @@ comb_of names words = do
   first ← label_of names (without_opens (word_in words 1))
   joined_by names (Strand first) (drop 2 words)
 
--- the left-combed tree behind the first word, of 2 to 16 strands
+-- the left-combed tree behind the first word, of 2 to COMB_STRANDS strands
 abbrev pub start_of : List (List ℕ) → List (List ℕ) → Option Labelled
 start_of names words = if has_strands words then comb_of names words else None
 

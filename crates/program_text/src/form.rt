@@ -8,7 +8,11 @@ use crate::plan::Command;
 use fusion_rules::Rules;
 use tree_shapes::Tree;
 
-const LIMIT: usize = 4096;
+/// The most strands of a comb program; there are 2 at least.
+pub const COMB_STRANDS: usize = 16;
+
+/// The most commands of a comb program.
+pub const COMMAND_LIMIT: usize = 4096;
 
 /// Whether the label of each node occurs in the product of its children's labels.
 pub(crate) fn is_admissible(rules: &Rules, tree: &Tree) -> bool
@@ -35,11 +39,11 @@ fn label(tree: &Tree) -> u8
     }
 }
 
-/// Whether there are at most 4,096 commands, of which all are braids but the last, a measurement.
+/// Whether there are at most [`COMMAND_LIMIT`] commands, of which all are braids but the last, a measurement.
 pub(crate) fn are_comb_commands(strands: u8, commands: &[Command]) -> bool
     ensures { result ≡ are_comb_commands strands commands.now }
 {
-    commands.len() <= LIMIT && is_measured_braid(strands, commands)
+    commands.len() <= COMMAND_LIMIT && is_measured_braid(strands, commands)
 }
 
 fn is_measured_braid(strands: u8, commands: &[Command]) -> bool

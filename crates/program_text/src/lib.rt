@@ -21,6 +21,7 @@ mod reading;
 mod start;
 mod writing;
 
+pub use form::{COMB_STRANDS, COMMAND_LIMIT};
 pub use laws::comb_texts;
 pub use letter::Letter;
 pub use plan::{Command, Plan, Sign, Site};

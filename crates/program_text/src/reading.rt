@@ -21,8 +21,9 @@ use std::alloc::{AllocError, Global};
 /// The plan of a text that is the canonical text of a comb program over these labels, or none for any other text.
 ///
 /// The names are as many as the labels of the rules. A comb program has the one site `main` with all strands, an
-/// admissible left-combed start of 2 to 16 strands, and at most 4,096 commands: braids, and one measurement behind
-/// them. Only want of memory is an error.
+/// admissible left-combed start of 2 to [`COMB_STRANDS`](crate::COMB_STRANDS) strands, and at most
+/// [`COMMAND_LIMIT`](crate::COMMAND_LIMIT) commands: braids, and one measurement behind them. Only want of memory is
+/// an error.
 #[tactic(auto, unfolding(crate::specs::Reading::comb_program_of))]
 pub fn read_comb_program(
     alloc: Global,

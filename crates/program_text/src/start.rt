@@ -4,12 +4,13 @@ ghost use Rattle.tree_shapes.specs.Views.{labelled};
 ghost use Rattle.program_text.specs.Reading.{has_strands, without_opens, is_close, joint_of, start_of};
 
 use crate::comb::Comb;
+use crate::form::COMB_STRANDS;
 use fusion_rules::Names;
 use line_text::Line;
 use std::alloc::{AllocError, Global};
 use tree_shapes::{join, strand};
 
-/// The left-combed tree of 2 to 16 strands behind the first word of a line.
+/// The left-combed tree of 2 to [`COMB_STRANDS`] strands behind the first word of a line.
 pub(crate) fn read_start(
     alloc: Global,
     names: &Names,
@@ -35,11 +36,11 @@ pub(crate) fn read_start(
     Ok(Some(Comb { tree, strands }))
 }
 
-/// Whether 2 to 16 words stand behind the first.
+/// Whether 2 to [`COMB_STRANDS`] words stand behind the first.
 fn has_strands(line: &Line) -> bool
     ensures { result ≡ has_strands (words_of line.now.text.now) }
 {
-    line.word(2).is_some() && line.word(17).is_none()
+    line.word(2).is_some() && line.word(COMB_STRANDS + 1).is_none()
 }
 
 /// A word without the `(` in front.

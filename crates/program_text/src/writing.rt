@@ -1,19 +1,19 @@
-ghost use Rattle.std.specs.Prelude.{◌≡◌, ◌++◌, true, length, IfOk, OnOk, codes};
+ghost use Rattle.std.specs.Prelude.{◌≡◌, ◌∷◌, [], true, length, IfOk, codes};
 ghost use Rattle.std.specs.Str.{bytes_eq};
+ghost use Rattle.line_text.specs.Spelling.{spaced, spelled};
+ghost use Rattle.line_text.specs.Writing.{Appends, Extends};
 ghost use Rattle.tree_shapes.specs.Views.{labelled};
 ghost use Rattle.program_text.specs.Form.{labels_below};
-ghost use Rattle.program_text.specs.Canonical.{canonical_program};
+ghost use Rattle.program_text.specs.Canonical.{canonical_program, command_words, sign_word, tree_words};
 ghost use Rattle.program_text.specs.Reading.{main_program};
-ghost use Rattle.program_text.specs.Parts.{tree_text, command_text, main_text};
 
 use crate::plan::{Command, Sign};
 use fusion_rules::Names;
-use itoa::Buffer;
+use line_text::{cut_back, end_line, write_line, write_plain_number, write_word};
 use std::alloc::{AllocError, Global};
 use tree_shapes::Tree;
 
 /// Whether these bytes are the canonical text of the program with the one site `main`.
-#[tactic(auto, using(crate::proofs::AcceptLemmas::text_is))]
 pub(crate) fn is_canonical(
     alloc: Global,
     names: &Names,
@@ -24,64 +24,97 @@ pub(crate) fn is_canonical(
     requires { labels_below (length names.now) (labelled start.now) ≡ true }
     ensures { IfOk result (λ is. is ≡ bytes_eq (canonical_program names.now (main_program (labelled start.now) commands.now)) bytes.now) }
 {
-    let text = main_text(alloc, names, start, commands)?;
+    let mut text = Vec::new(alloc);
+    write_program(names, start, commands, &mut text)?;
     Ok(text.as_slice() == bytes)
 }
 
-/// The text of a program with the one site `main`.
-fn main_text(
-    alloc: Global,
+/// Appends the canonical text of the program with the one site `main`.
+fn write_program(
     names: &Names,
     start: &Tree,
     commands: &[Command],
-) -> Result<Vec<u8>, AllocError>
+    out: &mut Vec<u8>,
+) -> Result<(), AllocError>
     requires { labels_below (length names.now) (labelled start.now) ≡ true }
-    ensures { IfOk result (λ text. text.items ≡ main_text names.now (labelled start.now) commands.now) }
+    ensures { Appends result out.old.items out.new.items (canonical_program names.now (main_program (labelled start.now) commands.now)) }
 {
-    let mut text = Vec::from_slice(alloc, b"program 1\nstart ")?;
-    write_tree(names, start, &mut text)?;
-    text.push(b'\n')?;
+    let begun = out.len();
+    let written = extend_program(names, start, commands, out);
+    cut_back(written, begun, out)
+}
+
+#[tactic(auto, using(crate::proofs::WritingLemmas::still_in_front))]
+fn extend_program(
+    names: &Names,
+    start: &Tree,
+    commands: &[Command],
+    out: &mut Vec<u8>,
+) -> Result<(), AllocError>
+    requires { labels_below (length names.now) (labelled start.now) ≡ true }
+    ensures { Extends result out.old.items out.new.items (canonical_program names.now (main_program (labelled start.now) commands.now)) }
+{
+    write_line(&["program", "1"], out)?;
+    extend_start(names, start, out)?;
     for command in commands {
-        write_command(command, &mut text)?;
+        extend_command(command, out)?;
     }
-    Ok(text)
+    Ok(())
+}
+
+#[tactic(auto, using(crate::proofs::WritingLemmas::still_in_front))]
+fn extend_start(names: &Names, start: &Tree, out: &mut Vec<u8>) -> Result<(), AllocError>
+    requires { labels_below (length names.now) (labelled start.now) ≡ true }
+    ensures { Extends result out.old.items out.new.items (spelled ((codes "start" ∷ tree_words names.now (labelled start.now)) ∷ [])) }
+{
+    out.extend_from_slice(b"start ")?;
+    extend_tree(names, start, out)?;
+    end_line(out)?;
+    Ok(())
 }
 
 /// Appends a tree, a node as `(L R):q` with one space.
-fn write_tree(names: &Names, tree: &Tree, text: &mut Vec<u8>) -> Result<(), AllocError>
+#[tactic(auto, using(crate::proofs::WritingLemmas::still_in_front))]
+fn extend_tree(names: &Names, tree: &Tree, out: &mut Vec<u8>) -> Result<(), AllocError>
     requires { labels_below (length names.now) (labelled tree.now) ≡ true }
-    ensures { OnOk result (text.new.items ≡ text.old.items ++ tree_text names.now (labelled tree.now)) }
+    ensures { Extends result out.old.items out.new.items (spaced (tree_words names.now (labelled tree.now))) }
 {
     match tree {
-        Tree::Leaf(label) => text.extend_from_slice(names.name(*label).as_bytes()),
+        Tree::Leaf(label) => out.extend_from_slice(names.name(*label).as_bytes())?,
         Tree::Node(fork) => {
-            text.push(b'(')?;
-            write_tree(names, &fork.left, text)?;
-            text.push(b' ')?;
-            write_tree(names, &fork.right, text)?;
-            text.extend_from_slice(b"):")?;
-            text.extend_from_slice(names.name(fork.label).as_bytes())
+            out.push(b'(')?;
+            extend_tree(names, &fork.left, out)?;
+            out.push(b' ')?;
+            extend_tree(names, &fork.right, out)?;
+            out.extend_from_slice(b"):")?;
+            out.extend_from_slice(names.name(fork.label).as_bytes())?;
         }
     }
+    Ok(())
 }
 
-/// Appends the line of a command.
-fn write_command(command: &Command, text: &mut Vec<u8>) -> Result<(), AllocError>
-    ensures { OnOk result (text.new.items ≡ text.old.items ++ command_text command.now) }
+fn extend_command(command: &Command, out: &mut Vec<u8>) -> Result<(), AllocError>
+    ensures { Extends result out.old.items out.new.items (spelled (command_words command.now ∷ [])) }
 {
-    let (verb, gap, end) = match *command {
-        Command::Braid {
-            gap,
-            sign: Sign::Plus,
-        } => (b"braid ".as_slice(), gap, b" +\n".as_slice()),
-        Command::Braid {
-            gap,
-            sign: Sign::Minus,
-        } => (b"braid ".as_slice(), gap, b" -\n".as_slice()),
-        Command::Raise { gap } => (b"raise ".as_slice(), gap, b"\n".as_slice()),
-        Command::Measure { gap } => (b"measure ".as_slice(), gap, b"\n".as_slice()),
+    let (verb, gap) = match *command {
+        Command::Braid { gap, .. } => (b"braid".as_slice(), gap),
+        Command::Raise { gap } => (b"raise".as_slice(), gap),
+        Command::Measure { gap } => (b"measure".as_slice(), gap),
     };
-    text.extend_from_slice(verb)?;
-    text.extend_from_slice(Buffer::new().format(gap).as_bytes())?;
-    text.extend_from_slice(end)
+    out.extend_from_slice(verb)?;
+    write_plain_number(u32::from(gap), out)?;
+    if let Command::Braid { sign, .. } = *command {
+        write_word(sign_word(sign), out)?;
+    }
+    end_line(out)?;
+    Ok(())
+}
+
+fn sign_word(sign: Sign) -> &'static str
+    ensures { result.now ≡ sign_word sign }
+{
+    match sign {
+        Sign::Plus => "+",
+        Sign::Minus => "-",
+    }
 }
