@@ -18,7 +18,7 @@ returns-in-Measure g c =
     let last = left_measure c.args.commands.now i (Braid 0 Plus) (omega arith) s c.loop-command.turn c.loop-command.strands.items (vector_of s.ring c.loop-command.strands.items c.loop-command.vector) start c.loop-command.invariant.left
     (length c.loop-command.strands.items) c.in-Measure.gap c.in-Measure.is c.loop-command.invariant.form in
     subst (λ (stated : Result (List (List ℕ × g.row.R-Elem.Denot)) ℕ). Runs (λ rows. rows_of rows.items) c.measure.result stated)
-    (ap (λ (ss : List ℕ). rest_of s c.loop-command.turn (Measure c.in-Measure.gap ∷ []) ss (one_word (vector_of s.ring c.loop-command.strands.items c.loop-command.vector))) c.as_slice.ensures.value ∙ last)
+    (ap (λ (ss : List ℕ). rest_of s c.loop-command.turn (Measure c.in-Measure.gap ∷ []) ss (one_word (vector_of s.ring ss c.loop-command.vector))) c.as_slice.ensures.value ∙ last)
     c.measure.ensures
 
 pub loop-command-preserved : goal.loop-command-preserved
