@@ -1,5 +1,5 @@
 -- Keys and the paths that they tell.
-use Rattle.std.proofs.Common.{◌≡◌, ℕ, suc, ◌+◌, ◌<◌, ◌≤◌, Bool, true, false, List, [], ◌∷◌, ◌++◌, drop, length, refl, ap, sym, ◌∙◌, append_assoc, arith}
+use Rattle.std.proofs.Common.{◌≡◌, ℕ, ◌+◌, ◌<◌, ◌≤◌, Bool, true, false, List, [], ◌∷◌, ◌++◌, drop, length, refl, ap, sym, ◌∙◌, arith}
 use Rattle.std.specs.Prelude.{◌&&◌, ◌==◌, nat_lt}
 use Rattle.std.specs.Str.{bytes_eq}
 use Rattle.std.proofs.lemmas.Bool.Decides.{nat_tests}
@@ -7,7 +7,6 @@ use Rattle.std.proofs.lemmas.Slice.Eq.{bytes_eq-Decides}
 use Rattle.fusion_rules.specs.Fusion.{Fusion, AreRules, fuses}
 use Rattle.symbol_table.specs.Symbols.{Symbols}
 use Rattle.symbol_table.proofs.RuleLemmas.{fuse_labels, unit_left}
-use Rattle.tree_shapes.specs.Labelled.{Labelled, Strand, Joined, leaves}
 use Rattle.comb_laws.specs.Paths.{Path, goes_on, is_path}
 use Rattle.comb_laws.proofs.PathFacts.{same_path, and_true}
 use Rattle.comb_run.specs.Entries.{path_of}
@@ -78,15 +77,3 @@ path_keyed c unit (s ∷ strands) (x ∷ y ∷ key) some on =
     let zero_is : x ≡ 0 = label_is x 0 parts.0 in
     let first : s ≡ y = unit s y (and_true (c.fuse 0 s y) (goes_on c y strands key) goes.1).0 in
     λ j. sym zero_is j ∷ first j ∷ key
-
--- of the strands the first alone is in a path
-first_strand : (tree : Labelled) (more key : List ℕ) → path_of (leaves tree ++ more) key ≡ path_of (leaves tree) key
-first_strand (Strand a) more key = refl
-first_strand (Joined l r q) more key =
-    ap (λ xs. path_of xs key) (append_assoc (leaves l) (leaves r) more)
-    ∙ (first_strand l (leaves r ++ more) key ∙ sym (first_strand l (leaves r) key))
-
--- a further node's label behind those of a tree
-pub node_more : (l r : Labelled) (key : List ℕ) (q : ℕ) (path : Path) → path_of (leaves l) key ≡ path → path_of (leaves l ++ leaves r) (key ++ q ∷ []) ≡ path ++ q ∷ []
-node_more l r key q path is =
-    first_strand l (leaves r) (key ++ q ∷ []) ∙ (path_of-append (leaves l) key (q ∷ []) ∙ ap (λ xs. xs ++ q ∷ []) is)

@@ -1,5 +1,3 @@
-use Rattle.std.proofs.Common.{ℕ}
-use Rattle.arrayvec.specs.ArrayVec.{ArrayVec}
 use Rattle.comb_run.proofs.EntryLemmas.{put_is}
 use Rattle.comb_run.proofs.vector.CombVector.put.Goals as goal
 
