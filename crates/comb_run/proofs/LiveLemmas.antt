@@ -5,51 +5,51 @@ use Rattle.std.specs.List.{list_all, filter}
 use Rattle.std.proofs.lemmas.List.{map-append, append-nil}
 use Rattle.std.proofs.lemmas.List.Folds.{list_all-append}
 use Rattle.std.proofs.lemmas.Bool.Decides.{leb_tells}
-use Rattle.std.proofs.lemmas.Slice.Eq.{bytes_eq-Decides}
 use Rattle.arrayvec.specs.ArrayVec.{ArrayVec}
 use Rattle.ring_laws.specs.Ring.{RingLaws}
 use Rattle.ring_laws.specs.Stated.{◌>>=◌, steps_over}
 use Rattle.symbol_table.specs.Symbols.{Symbols}
 use Rattle.comb_laws.specs.Paths.{Path, Vector, labels, paths}
 use Rattle.comb_laws.specs.Operators.{projected}
-use Rattle.comb_run.specs.Entries.{entry_at, vector_of, AreEntries}
+use Rattle.comb_run.specs.Entries.{path_of, vector_of, AreEntries}
 use Rattle.comb_run.specs.Evaluated.{Live, is_nought, row_step}
 use Rattle.comb_run.specs.Lives.{live_of, lives_of, rows_of}
 use Rattle.comb_run.specs.declared.live.Word.{Word}
 use Rattle.comb_run.specs.declared.rows.Row.{Row}
+use Rattle.comb_run.proofs.EntryLemmas.{first_there}
 use Rattle.comb_run.proofs.PathLemmas.{among_paths, one_fails, all_pass}
 
 module _ {E : Type 0} (c : Symbols E) (laws : RingLaws c.ring c.held) (strands : List ℕ) where
   -- no entries are the vector that is zero everywhere
-  pub nought_empty : (es : List (ArrayVec ℕ × E)) → es ≡ [] → is_nought c strands (vector_of c.ring es) ≡ true
+  pub nought_empty : (es : List (ArrayVec ℕ × E)) → es ≡ [] → is_nought c strands (vector_of c.ring strands es) ≡ true
   nought_empty es none =
-      ap (λ (xs : List (ArrayVec ℕ × E)). is_nought c strands (vector_of c.ring xs)) none
+      ap (λ (xs : List (ArrayVec ℕ × E)). is_nought c strands (vector_of c.ring strands xs)) none
       ∙ all_pass (λ (x : Path). c.held.is_zero c.ring.zero) (paths c strands) (λ x. (laws.is_zero_is c.ring.zero laws.zero_is).1 refl)
 
   -- an entry is a value that isn't zero
-  pub nought_some : (es : List (ArrayVec ℕ × E)) → AreEntries c strands es → (es ≡ [] → ⊥) → is_nought c strands (vector_of c.ring es) ≡ false
+  pub nought_some : (es : List (ArrayVec ℕ × E)) → AreEntries c strands es → (es ≡ [] → ⊥) → is_nought c strands (vector_of c.ring strands es) ≡ false
   nought_some [] are some = absurd (some refl)
   nought_some (e ∷ es) are some =
-      let there : entry_at (e ∷ es) e.0.items ≡ Some e.1 = ap (λ b. if b then Some e.1 else entry_at es e.0.items) ((bytes_eq-Decides e.0.items e.0.items).1 refl) in
-      one_fails (λ x. c.held.is_zero (vector_of c.ring (e ∷ es) x)) e.0.items (paths c strands)
-      (among_paths c strands e.0.items (are.paths e.0.items e.1 there))
-      (rw there (are.nonzero e.0.items e.1 there))
+      let there = first_there strands e es in
+      one_fails (λ x. c.held.is_zero (vector_of c.ring strands (e ∷ es) x)) (path_of strands e.0.items) (paths c strands)
+      (among_paths c strands (path_of strands e.0.items) (are.paths (path_of strands e.0.items) e.1 there))
+      (rw there (are.nonzero (path_of strands e.0.items) e.1 there))
 
   -- an outcome whose vector is zero makes no word
-  pub outcome_none : (es : List (ArrayVec ℕ × E)) (v : Vector E) (ws more : List (Live E)) → vector_of c.ring es ≡ v → es ≡ [] → ws ≡ ws ++ (if is_nought c strands v then [] else more)
+  pub outcome_none : (es : List (ArrayVec ℕ × E)) (v : Vector E) (ws more : List (Live E)) → vector_of c.ring strands es ≡ v → es ≡ [] → ws ≡ ws ++ (if is_nought c strands v then [] else more)
   outcome_none es v ws more is none =
       let nought : is_nought c strands v ≡ true = ap (is_nought c strands) (sym is) ∙ nought_empty es none in
       sym (rw nought (append-nil ws))
 
   -- another makes one
-  pub outcome_one : {R : Type 0} (old new : List (Word R E)) (w : Word R E) (q : ℕ) (v : Vector E) → new ≡ old ++ w ∷ [] → w.word.items ≡ q ∷ [] → vector_of c.ring w.vector ≡ v
+  pub outcome_one : {R : Type 0} (old new : List (Word R E)) (w : Word R E) (q : ℕ) (v : Vector E) → new ≡ old ++ w ∷ [] → w.word.items ≡ q ∷ [] → vector_of c.ring strands w.vector ≡ v
       → AreEntries c strands w.vector → (w.vector ≡ [] → ⊥)
-      → lives_of c.ring new ≡ lives_of c.ring old ++ (if is_nought c strands v then [] else record { word = q ∷ []; vector = v } ∷ [])
+      → lives_of c.ring strands new ≡ lives_of c.ring strands old ++ (if is_nought c strands v then [] else record { word = q ∷ []; vector = v } ∷ [])
   outcome_one {R} old new w q v made word is are some =
       let nought : is_nought c strands v ≡ false = ap (is_nought c strands) (sym is) ∙ nought_some w.vector are some in
-      ap (lives_of c.ring) made
-      ∙ (map-append (live_of c.ring) old (w ∷ [])
-      ∙ rw nought (λ j. lives_of c.ring old ++ record { word = word j; vector = is j } ∷ []))
+      ap (lives_of c.ring strands) made
+      ∙ (map-append (live_of c.ring strands) old (w ∷ [])
+      ∙ rw nought (λ j. lives_of c.ring strands old ++ record { word = word j; vector = is j } ∷ []))
 
 filter_pushed : {A : Type 0} (p : A → Bool) (xs : List A) (x : A) → filter p (xs ++ x ∷ []) ≡ filter p xs ++ (if p x then x ∷ [] else [])
 filter_pushed p [] x = refl
@@ -117,14 +117,14 @@ next_word : {R E : Type 0} (ws : List (Word R E)) (i : ℕ) (w : Word R E) → w
 next_word ws i w is low = let next : suc i ≡ i + 1 = omega arith in drop-cons ws i w low ∙ (λ j. sym is j ∷ drop (next j) ws)
 
 module _ {R E : Type 0} (c : Symbols E) (strands : List ℕ) (ws : List (Word R E)) (i : ℕ) (w : Word R E) (is : w ≡ get_or ws i w) (low : i < length ws) (rows : List (List ℕ × E)) (all : Option (List (List ℕ × E)))
-    (before : steps_over (row_step c strands) (lives_of c.ring (drop i ws)) rows ≡ all) where
-  here : (row_step c strands (live_of c.ring w) rows >>= λ (more : List (List ℕ × E)). steps_over (row_step c strands) (lives_of c.ring (drop (i + 1) ws)) more) ≡ all
-  here = ap (λ (left : List (Word R E)). steps_over (row_step c strands) (lives_of c.ring left) rows) (sym (next_word ws i w is low)) ∙ before
+    (before : steps_over (row_step c strands) (lives_of c.ring strands (drop i ws)) rows ≡ all) where
+  here : (row_step c strands (live_of c.ring strands w) rows >>= λ (more : List (List ℕ × E)). steps_over (row_step c strands) (lives_of c.ring strands (drop (i + 1) ws)) more) ≡ all
+  here = ap (λ (left : List (Word R E)). steps_over (row_step c strands) (lives_of c.ring strands left) rows) (sym (next_word ws i w is low)) ∙ before
 
   -- the rows that follow one more word
-  pub rows_next : (more : List (List ℕ × E)) → row_step c strands (live_of c.ring w) rows ≡ Some more → steps_over (row_step c strands) (lives_of c.ring (drop (i + 1) ws)) more ≡ all
-  rows_next more e = ap (λ o. o >>= λ (m : List (List ℕ × E)). steps_over (row_step c strands) (lives_of c.ring (drop (i + 1) ws)) m) (sym e) ∙ here
+  pub rows_next : (more : List (List ℕ × E)) → row_step c strands (live_of c.ring strands w) rows ≡ Some more → steps_over (row_step c strands) (lives_of c.ring strands (drop (i + 1) ws)) more ≡ all
+  rows_next more e = ap (λ o. o >>= λ (m : List (List ℕ × E)). steps_over (row_step c strands) (lives_of c.ring strands (drop (i + 1) ws)) m) (sym e) ∙ here
 
   -- a word whose weight doesn't fit stops all
-  pub rows_stop : row_step c strands (live_of c.ring w) rows ≡ None → all ≡ None
-  rows_stop e = sym here ∙ ap (λ o. o >>= λ (m : List (List ℕ × E)). steps_over (row_step c strands) (lives_of c.ring (drop (i + 1) ws)) m) e
+  pub rows_stop : row_step c strands (live_of c.ring strands w) rows ≡ None → all ≡ None
+  rows_stop e = sym here ∙ ap (λ o. o >>= λ (m : List (List ℕ × E)). steps_over (row_step c strands) (lives_of c.ring strands (drop (i + 1) ws)) m) e

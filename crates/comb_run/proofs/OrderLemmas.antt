@@ -56,7 +56,7 @@ sorted_append n (x ∷ xs) ys sx sy low at = (
   sorted_append n xs ys sx.1 sy low.1 at,
 )
 
-put_less : (n : ℕ) (x y : Path) → path_cmp x y ≡ Less → path_cmp (n ∷ x) (n ∷ y) ≡ Less
+pub put_less : (n : ℕ) (x y : Path) → path_cmp x y ≡ Less → path_cmp (n ∷ x) (n ∷ y) ≡ Less
 put_less n x y h = rw (nat_cmp_same n) h
 
 put_all : (n : ℕ) (x : Path) (ys : List Path) → AllByRecursion (λ y. path_cmp x y ≡ Less) ys → AllByRecursion (λ y. path_cmp (n ∷ x) y ≡ Less) (map (λ y. n ∷ y) ys)

@@ -17,15 +17,15 @@ use Rattle.ring_laws.specs.Stated.{◌>>=◌, steps_over}
 use Rattle.symbol_table.specs.Symbols.{Symbols}
 use Rattle.comb_laws.specs.Paths.{Path, Vector, paths, is_path}
 use Rattle.comb_run.specs.Evaluated.{path_weight_at, weight_term_at, weight_step, weight_at}
-use Rattle.comb_run.specs.Entries.{entry_at, vector_of, items_of, among, AreEntries}
+use Rattle.comb_run.specs.Entries.{path_of, paths_of, entry_at, vector_of, among, AreEntries}
 use Rattle.comb_run.proofs.EntryLemmas.{lookup_is}
 use Rattle.comb_laws.proofs.PathFacts.{same_path}
 use Rattle.comb_run.proofs.PathLemmas.{among_paths}
-use Rattle.comb_run.proofs.OrderLemmas.{path_cmp, sorted_paths, sorted_filter, same_in_order}
+use Rattle.comb_run.proofs.OrderLemmas.{path_cmp, put_less, sorted_paths, sorted_filter, same_in_order}
 
 -- a step for an entry
 abbrev pub entry_step : {E : Type 0} → Symbols E → List ℕ → ArrayVec ℕ × E → E → Option E
-entry_step c strands e sum = weight_term_at c.ring (path_weight_at c strands e.0.items) e.1 sum
+entry_step c strands e sum = weight_term_at c.ring (path_weight_at c strands (path_of strands e.0.items)) e.1 sum
 
 bind_same : {A B : Type 0} (o p : Option A) (f g : A → Option B) → o ≡ p → ((x : A) → f x ≡ g x) → (o >>= f) ≡ (p >>= g)
 bind_same o p f g e h = ap (λ q. q >>= f) e ∙ each p
@@ -53,11 +53,11 @@ any_turned q (x ∷ xs) = λ j. turned (bytes_eq q x) (bytes_eq x q) refl refl j
     turned true false e d = sym ((bytes_eq-Decides x q).1 (sym (same_path q x e))) ∙ d
     turned false true e d = sym e ∙ (bytes_eq-Decides q x).1 (sym (same_path x q d))
 
-keys_any : {E : Type 0} (es : List (ArrayVec ℕ × E)) (q : Path) → list_any (λ k. bytes_eq q k) (items_of (keys_of es)) ≡ is_some (entry_at es q)
-keys_any [] q = refl
-keys_any {E} (e ∷ es) q = pick (bytes_eq q e.0.items) (keys_any es q)
+keys_any : {E : Type 0} (strands : List ℕ) (es : List (ArrayVec ℕ × E)) (q : Path) → list_any (λ k. bytes_eq q k) (paths_of strands (keys_of es)) ≡ is_some (entry_at strands es q)
+keys_any strands [] q = refl
+keys_any {E} strands (e ∷ es) q = pick (bytes_eq q (path_of strands e.0.items)) (keys_any strands es q)
   where
-    pick : (b : Bool) → list_any (λ k. bytes_eq q k) (items_of (keys_of es)) ≡ is_some (entry_at es q) → (b || list_any (λ k. bytes_eq q k) (items_of (keys_of es))) ≡ is_some (if b then Some e.1 else entry_at es q)
+    pick : (b : Bool) → list_any (λ k. bytes_eq q k) (paths_of strands (keys_of es)) ≡ is_some (entry_at strands es q) → (b || list_any (λ k. bytes_eq q k) (paths_of strands (keys_of es))) ≡ is_some (if b then Some e.1 else entry_at strands es q)
     pick true h = refl
     pick false h = h
 
@@ -95,61 +95,66 @@ module _ {E : Type 0} (c : Symbols E) (laws : RingLaws c.ring c.held) (strands :
 
   module _ (es : List (ArrayVec ℕ × E)) (are : AreEntries c strands es) where
     -- the paths that count are the entries' keys
-    same_any : (q : Path) → list_any (λ k. bytes_eq q k) (filter (counts (vector_of c.ring es)) (paths c strands)) ≡ list_any (λ k. bytes_eq q k) (items_of (keys_of es))
+    same_any : (q : Path) → list_any (λ k. bytes_eq q k) (filter (counts (vector_of c.ring strands es)) (paths c strands)) ≡ list_any (λ k. bytes_eq q k) (paths_of strands (keys_of es))
     same_any q =
-        filter_any (counts (vector_of c.ring es)) q (paths c strands)
-        ∙ (pick (entry_at es q) refl ∙ sym (keys_any es q))
+        filter_any (counts (vector_of c.ring strands es)) q (paths c strands)
+        ∙ (pick (entry_at strands es q) refl ∙ sym (keys_any strands es q))
       where
-        pick : (o : Option E) → entry_at es q ≡ o → (list_any (λ k. bytes_eq q k) (paths c strands) && not (c.held.is_zero (unwrap_or o c.ring.zero))) ≡ is_some o
+        pick : (o : Option E) → entry_at strands es q ≡ o → (list_any (λ k. bytes_eq q k) (paths c strands) && not (c.held.is_zero (unwrap_or o c.ring.zero))) ≡ is_some o
         pick None e =
             ap (λ b. list_any (λ k. bytes_eq q k) (paths c strands) && not b) ((laws.is_zero_is c.ring.zero laws.zero_is).1 refl)
             ∙ and_false_right (list_any (λ k. bytes_eq q k) (paths c strands))
         pick (Some v) e =
             λ j. (any_turned q (paths c strands) ∙ among_paths c strands q (are.paths q v e)) j && not (are.nonzero q v e j)
 
-    keys_are : IsStrictlySortedBy path_cmp (items_of (keys_of es)) → filter (counts (vector_of c.ring es)) (paths c strands) ≡ items_of (keys_of es)
+    keys_are : IsStrictlySortedBy path_cmp (paths_of strands (keys_of es)) → filter (counts (vector_of c.ring strands es)) (paths c strands) ≡ paths_of strands (keys_of es)
     keys_are sorted =
-        same_in_order (filter (counts (vector_of c.ring es)) (paths c strands)) (items_of (keys_of es))
-        (sorted_filter (counts (vector_of c.ring es)) (paths c strands) (sorted_paths c strands)) sorted same_any
+        same_in_order (filter (counts (vector_of c.ring strands es)) (paths c strands)) (paths_of strands (keys_of es))
+        (sorted_filter (counts (vector_of c.ring strands es)) (paths c strands) (sorted_paths c strands)) sorted same_any
 
     told : (xs : List (ArrayVec ℕ × E)) → AllByRecursion (λ (e : ArrayVec ℕ × E). lookup (is_at (λ (k : ArrayVec ℕ). slice_cmp nat_cmp e.0.items k.items)) es ≡ Some e.1) xs
-        → AllByRecursion (λ (e : ArrayVec ℕ × E). (t : E) → weight_step c strands (vector_of c.ring es) e.0.items t ≡ entry_step c strands e t) xs
+        → AllByRecursion (λ (e : ArrayVec ℕ × E). (t : E) → weight_step c strands (vector_of c.ring strands es) (path_of strands e.0.items) t ≡ entry_step c strands e t) xs
     told [] found = tt
     told (e ∷ xs) found =
-        let there : entry_at es e.0.items ≡ Some e.1 = sym (lookup_is es e.0.items) ∙ found.0 in
-        (λ t. rw (there, are.nonzero e.0.items e.1 there) refl, told xs found.1)
+        let there : entry_at strands es (path_of strands e.0.items) ≡ Some e.1 = sym (lookup_is strands es e.0.items) ∙ found.0 in
+        (λ t. rw (there, are.nonzero (path_of strands e.0.items) e.1 there) refl, told xs found.1)
 
     -- the weight is evaluated over the entries
-    pub weight_is : IsStrictlySortedBy path_cmp (items_of (keys_of es))
+    pub weight_is : IsStrictlySortedBy path_cmp (paths_of strands (keys_of es))
         → All (λ (e : ArrayVec ℕ × E). lookup (is_at (λ (k : ArrayVec ℕ). slice_cmp nat_cmp e.0.items k.items)) es ≡ Some e.1) es
-        → weight_at c strands (vector_of c.ring es) ≡ steps_over (entry_step c strands) es c.ring.zero
+        → weight_at c strands (vector_of c.ring strands es) ≡ steps_over (entry_step c strands) es c.ring.zero
     weight_is sorted found =
-        skipped (vector_of c.ring es) (paths c strands) c.ring.zero
-        ∙ (ap (λ xs. steps_over (weight_step c strands (vector_of c.ring es)) xs c.ring.zero) (keys_are sorted ∙ map_map (λ (p : ArrayVec ℕ). p.items) (λ (e : ArrayVec ℕ × E). e.0) es)
-        ∙ steps_told (weight_step c strands (vector_of c.ring es)) (entry_step c strands) (λ (e : ArrayVec ℕ × E). e.0.items) es c.ring.zero
+        skipped (vector_of c.ring strands es) (paths c strands) c.ring.zero
+        ∙ (ap (λ xs. steps_over (weight_step c strands (vector_of c.ring strands es)) xs c.ring.zero) (keys_are sorted ∙ map_map (λ (p : ArrayVec ℕ). path_of strands p.items) (λ (e : ArrayVec ℕ × E). e.0) es)
+        ∙ steps_told (weight_step c strands (vector_of c.ring strands es)) (entry_step c strands) (λ (e : ArrayVec ℕ × E). path_of strands e.0.items) es c.ring.zero
         (told es (recursion_from_All (λ (e : ArrayVec ℕ × E). lookup (is_at (λ (k : ArrayVec ℕ). slice_cmp nat_cmp e.0.items k.items)) es ≡ Some e.1) es found)))
 
 -- an entry has a member at a path
 pub record IsEntry {E : Type 0} (c : Symbols E) (strands : List ℕ) (e : ArrayVec ℕ × E) : Type 0 where
-  pub path : is_path c strands e.0.items ≡ true
+  pub path : is_path c strands (path_of strands e.0.items) ≡ true
   pub member : IsTrue (c.ring.member e.1)
 
 pub entries_are : {E : Type 0} (c : Symbols E) (strands : List ℕ) (es : List (ArrayVec ℕ × E)) → AreEntries c strands es
     → (xs : List (ArrayVec ℕ × E)) → AllByRecursion (λ (e : ArrayVec ℕ × E). lookup (is_at (λ (k : ArrayVec ℕ). slice_cmp nat_cmp e.0.items k.items)) es ≡ Some e.1) xs → AllByRecursion (IsEntry c strands) xs
 entries_are c strands es are [] found = tt
 entries_are {E} c strands es are (e ∷ xs) found =
-    let there : entry_at es e.0.items ≡ Some e.1 = sym (lookup_is es e.0.items) ∙ found.0 in
-    (record { path = are.paths e.0.items e.1 there; member = are.members e.0.items e.1 there }, entries_are c strands es are xs found.1)
+    let there : entry_at strands es (path_of strands e.0.items) ≡ Some e.1 = sym (lookup_is strands es e.0.items) ∙ found.0 in
+    (record { path = are.paths (path_of strands e.0.items) e.1 there; member = are.members (path_of strands e.0.items) e.1 there }, entries_are c strands es are xs found.1)
 
-all_items : (R : Path → Type 0) (xs : List (ArrayVec ℕ)) → AllByRecursion (λ (p : ArrayVec ℕ). R p.items) xs → AllByRecursion R (items_of xs)
-all_items R [] all = tt
-all_items R (x ∷ xs) all = (all.0, all_items R xs all.1)
+-- paths over the strands are in the order of their keys
+paths_less : (strands a b : List ℕ) → path_cmp a b ≡ Less → path_cmp (path_of strands a) (path_of strands b) ≡ Less
+paths_less [] a b h = put_less 0 a b h
+paths_less (s ∷ strands) a b h = put_less 0 (s ∷ a) (s ∷ b) (put_less s a b h)
+
+all_less : (strands : List ℕ) (x : ArrayVec ℕ) (keys : List (ArrayVec ℕ)) → AllByRecursion (λ (p : ArrayVec ℕ). path_cmp x.items p.items ≡ Less) keys → AllByRecursion (λ y. path_cmp (path_of strands x.items) y ≡ Less) (paths_of strands keys)
+all_less strands x [] all = tt
+all_less strands x (p ∷ keys) all = (paths_less strands x.items p.items all.0, all_less strands x keys all.1)
 
 -- keys in order are paths in order
-sorted_items : (keys : List (ArrayVec ℕ)) → IsStrictlySortedBy (λ (a b : ArrayVec ℕ). slice_cmp nat_cmp a.items b.items) keys → IsStrictlySortedBy path_cmp (items_of keys)
+sorted_items : (strands : List ℕ) (keys : List (ArrayVec ℕ)) → IsStrictlySortedBy (λ (a b : ArrayVec ℕ). slice_cmp nat_cmp a.items b.items) keys → IsStrictlySortedBy path_cmp (paths_of strands keys)
 unfolding IsStrictlySortedBy
-sorted_items [] s = tt
-sorted_items (x ∷ xs) s = (all_items (λ y. path_cmp x.items y ≡ Less) xs s.0, sorted_items xs s.1)
+sorted_items strands [] s = tt
+sorted_items strands (x ∷ xs) s = (all_less strands x xs s.0, sorted_items strands xs s.1)
 
 -- what a map says of its entries
 pub record IsMap {E : Type 0} (es : List (ArrayVec ℕ × E)) : Type 0 where
@@ -157,8 +162,8 @@ pub record IsMap {E : Type 0} (es : List (ArrayVec ℕ × E)) : Type 0 where
   pub found : All (λ e. lookup (is_at (λ (k : ArrayVec ℕ). slice_cmp nat_cmp e.0.items k.items)) es ≡ Some e.1) es
 
 module _ {E : Type 0} (c : Symbols E) (laws : RingLaws c.ring c.held) (strands : List ℕ) (es : List (ArrayVec ℕ × E)) (are : AreEntries c strands es) (map_of : IsMap es) where
-  pub begun : (left : List (ArrayVec ℕ × E)) (sum : E) → left ≡ es → sum ≡ c.ring.zero → steps_over (entry_step c strands) left sum ≡ weight_at c strands (vector_of c.ring es)
-  begun left sum same none = rw (same, none) (sym (weight_is c laws strands es are (sorted_items (keys_of es) map_of.ordered) map_of.found))
+  pub begun : (left : List (ArrayVec ℕ × E)) (sum : E) → left ≡ es → sum ≡ c.ring.zero → steps_over (entry_step c strands) left sum ≡ weight_at c strands (vector_of c.ring strands es)
+  begun left sum same none = rw (same, none) (sym (weight_is c laws strands es are (sorted_items strands (keys_of es) map_of.ordered) map_of.found))
 
   pub begun_entries : (left : List (ArrayVec ℕ × E)) → left ≡ es → AllByRecursion (IsEntry c strands) left
   begun_entries left same =

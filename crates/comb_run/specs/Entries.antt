@@ -1,4 +1,4 @@
--- The vector of a list of entries.
+-- The vector of a list of entries, by keys.
 use Rattle.std.specs.Prelude.{◌≡◌, not, is_some, slice_index, ◌++◌, ℕ, Bool, List, [], ◌∷◌, map, Option, Some, None, if◌then◌else◌, unwrap_or, true, false, IsTrue, slice_set}
 use Rattle.std.specs.Str.{bytes_eq}
 use Rattle.std.specs.List.{list_any, list_all, range_with_len}
@@ -8,14 +8,24 @@ use Rattle.ring_laws.specs.Ring.{Ring, Held}
 use Rattle.symbol_table.specs.Symbols.{Symbols}
 use Rattle.comb_laws.specs.Paths.{Path, Vector, is_path, labels}
 
--- what the entries have at a path
-abbrev pub entry_at : {E : Type 0} → List (ArrayVec ℕ × E) → Path → Option E
-entry_at [] x = None
-entry_at (e ∷ es) x = if bytes_eq x e.0.items then Some e.1 else entry_at es x
+-- the path over the strands whose nodes have the labels of a key: the unit, the first strand, and a label after each
+-- further one
+abbrev pub path_of : List ℕ → List ℕ → Path
+path_of [] key = 0 ∷ key
+path_of (s ∷ strands) key = 0 ∷ s ∷ key
+
+-- the paths of these keys
+abbrev pub paths_of : List ℕ → List (ArrayVec ℕ) → List Path
+paths_of strands keys = map (λ key. path_of strands key.items) keys
+
+-- what the entries have at a path over the strands
+abbrev pub entry_at : {E : Type 0} → List ℕ → List (ArrayVec ℕ × E) → Path → Option E
+entry_at strands [] x = None
+entry_at strands (e ∷ es) x = if bytes_eq x (path_of strands e.0.items) then Some e.1 else entry_at strands es x
 
 -- an absent path has zero
-abbrev pub vector_of : {E : Type 0} → Ring E → List (ArrayVec ℕ × E) → Vector E
-vector_of r es x = unwrap_or (entry_at es x) r.zero
+abbrev pub vector_of : {E : Type 0} → Ring E → List ℕ → List (ArrayVec ℕ × E) → Vector E
+vector_of r strands es x = unwrap_or (entry_at strands es x) r.zero
 
 -- a value is kept unless it is zero
 abbrev pub kept_of : {E : Type 0} → Held E → E → Option E
@@ -34,18 +44,19 @@ abbrev pub row_of : ℕ → ℕ → Path → List Path
 row_of count k x = row_from 0 count k x
 
 -- whether a path is the first of its row that has an entry: no smaller label at place k has one
-abbrev pub is_first : {E : Type 0} → List (ArrayVec ℕ × E) → ℕ → Path → Bool
-is_first es k x = list_all (λ l. not (is_some (entry_at es (slice_set x k l)))) (labels (slice_index x k))
+abbrev pub is_first : {E : Type 0} → List ℕ → List (ArrayVec ℕ × E) → ℕ → Path → Bool
+is_first strands es k x =
+    list_all (λ l. not (is_some (entry_at strands es (slice_set x k l)))) (labels (slice_index x k))
 
 -- the rows of those of these paths that are the first of theirs
-abbrev pub rows_of_first : {E : Type 0} → ℕ → ℕ → List (ArrayVec ℕ × E) → List (ArrayVec ℕ) → List Path
-rows_of_first count k es [] = []
-rows_of_first count k es (p ∷ ps) =
-    if is_first es k p.items then row_of count k p.items ++ rows_of_first count k es ps else rows_of_first count k es ps
+abbrev pub rows_of_first : {E : Type 0} → ℕ → ℕ → List ℕ → List (ArrayVec ℕ × E) → List Path → List Path
+rows_of_first count k strands es [] = []
+rows_of_first count k strands es (x ∷ xs) =
+    if is_first strands es k x then row_of count k x ++ rows_of_first count k strands es xs else rows_of_first count k strands es xs
 
--- the paths that agree with one that has an entry at all places but k, each row once
-abbrev pub targets_of : {E : Type 0} → ℕ → ℕ → List (ArrayVec ℕ × E) → List Path
-targets_of count k es = rows_of_first count k es (keys_of es)
+-- the lists that agree with a path that has an entry at all places but k, each row once
+abbrev pub targets_of : {E : Type 0} → ℕ → ℕ → List ℕ → List (ArrayVec ℕ × E) → List Path
+targets_of count k strands es = rows_of_first count k strands es (paths_of strands (keys_of es))
 
 -- the labels of each of these paths
 abbrev pub items_of : List (ArrayVec ℕ) → List Path
@@ -56,11 +67,11 @@ abbrev pub gathered : {E : Type 0} → Held E → Vector E → List Path → Pat
 gathered h v done x = if among x done then kept_of h (v x) else None
 
 -- every value is of the ring
-abbrev pub AreMembers : {E : Type 0} → Ring E → List (ArrayVec ℕ × E) → Type 0
-AreMembers {E} r es = (x : Path) (v : E) → entry_at es x ≡ Some v → IsTrue (r.member v)
+abbrev pub AreMembers : {E : Type 0} → Ring E → List ℕ → List (ArrayVec ℕ × E) → Type 0
+AreMembers {E} r strands es = (x : Path) (v : E) → entry_at strands es x ≡ Some v → IsTrue (r.member v)
 
 -- The entries are those of a vector over the strands: members that aren't zero, at paths.
 pub record AreEntries {E : Type 0} (c : Symbols E) (strands : List ℕ) (es : List (ArrayVec ℕ × E)) : Type 0 where
-  pub members : AreMembers c.ring es
-  pub paths : (x : Path) (v : E) → entry_at es x ≡ Some v → is_path c strands x ≡ true
-  pub nonzero : (x : Path) (v : E) → entry_at es x ≡ Some v → c.held.is_zero v ≡ false
+  pub members : AreMembers c.ring strands es
+  pub paths : (x : Path) (v : E) → entry_at strands es x ≡ Some v → is_path c strands x ≡ true
+  pub nonzero : (x : Path) (v : E) → entry_at strands es x ≡ Some v → c.held.is_zero v ≡ false

@@ -8,12 +8,12 @@ use Rattle.comb_run.specs.declared.rows.Row.{Row}
 use Rattle.comb_run.specs.declared.rows.RunFault.{RunFault}
 use Rattle.comb_run.specs.declared.rows.RunFault.TheVariants.{Overflow, Memory}
 
--- a live word with the vector of its entries
-abbrev pub live_of : {R E : Type 0} → Ring E → Word R E → Live E
-live_of r w = record { word = w.word.items; vector = vector_of r w.vector }
+-- a live word with the vector of its entries over the strands
+abbrev pub live_of : {R E : Type 0} → Ring E → List ℕ → Word R E → Live E
+live_of r strands w = record { word = w.word.items; vector = vector_of r strands w.vector }
 
-abbrev pub lives_of : {R E : Type 0} → Ring E → List (Word R E) → List (Live E)
-lives_of r ws = map (live_of r) ws
+abbrev pub lives_of : {R E : Type 0} → Ring E → List ℕ → List (Word R E) → List (Live E)
+lives_of r strands ws = map (live_of r strands) ws
 
 -- rows as pairs of a word and its weight
 abbrev pub rows_of : {R E : Type 0} → List (Row R E) → List (List ℕ × E)

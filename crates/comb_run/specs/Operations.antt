@@ -3,6 +3,7 @@ use Rattle.std.specs.Prelude.{◌≡◌, ℕ, ◌<◌, ◌≤◌, List, length, 
 use Rattle.symbol_table.specs.Symbols.{Symbols}
 use Rattle.comb_run.specs.Evaluated.{KernelAt, braid_kernel_at, charge_kernel_at}
 use Rattle.symbol_table.specs.Index.{AreSixLabels}
+use Rattle.tree_shapes.specs.declared.limits.TheConstants.{STRAND_LIMIT}
 use Rattle.comb_run.specs.declared.kernel.Place.{Place}
 use Rattle.comb_laws.specs.declared.operator.Operator.{Operator}
 use Rattle.comb_laws.specs.declared.operator.Operator.TheVariants.{Exchange, Project}
@@ -21,12 +22,12 @@ charge_below count (Project q) = q < count
 abbrev pub IsPlace : ℕ → Place → Type 0
 IsPlace count place = AreSixLabels count place.p place.a place.b place.y place.t place.u
 
--- a gap of 2 to 16 strands, whose labels are below the count of labels, which isn't zero
+-- a gap of two strands or more, as many as a tree has at most, whose labels are below the count of labels, which isn't zero
 pub record IsGap (count : ℕ) (strands : List ℕ) (k : ℕ) : Type 0 where
   pub some : 0 < count
   pub low : 0 < k
   pub high : k < length strands
-  pub few : length strands ≤ 16
+  pub few : length strands ≤ STRAND_LIMIT
   pub labels : All (λ s. s < count) strands
 
 -- an operator of the labels below the count at a gap of these strands, and the strands that it leaves

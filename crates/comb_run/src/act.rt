@@ -1,12 +1,13 @@
 //! One step of the engine: an operator at a gap of a comb vector.
 
-ghost use Rattle.std.specs.Prelude.{◌≡◌, ◌<◌, ◌≤◌, ◌+◌, ◌-◌, ℕ, List, All, IsTrue, IfOk, OnOk, IsErrOf, length, true, false, is_some, Some, None, if◌then◌else◌};
+ghost use Rattle.std.specs.Prelude.{◌≡◌, ◌<◌, ◌≤◌, ◌+◌, ◌-◌, ℕ, List, All, IsTrue, drop, IfOk, OnOk, IsErrOf, length, true, false, is_some, Some, None, if◌then◌else◌};
 ghost use Rattle.std.specs.Str.{bytes_eq};
 ghost use Rattle.std.specs.Map.{keys_of};
 ghost use Rattle.ring_laws.specs.Stated.{Gives};
+ghost use Rattle.fusion_rules.specs.Fusion.{AreRules};
 ghost use Rattle.symbol_table.specs.Category.{symbols};
 ghost use Rattle.comb_laws.specs.Paths.{goes_on as spec_goes_on, is_path as spec_is_path};
-ghost use Rattle.comb_run.specs.Entries.{vector_of, entry_at, kept_of, gathered, among, items_of, AreMembers, AreEntries};
+ghost use Rattle.comb_run.specs.Entries.{path_of, vector_of, entry_at, kept_of, gathered, among, items_of, AreMembers, AreEntries};
 ghost use Rattle.comb_laws.specs.Paths.{IsAlong};
 ghost use Rattle.comb_laws.specs.Operators.{acted};
 ghost use Rattle.comb_run.specs.Evaluated.{acted_step, acted_at as spec_acted_at, acted_fits};
@@ -16,7 +17,8 @@ ghost use Rattle.symbol_table.specs.Draft.{IsMember};
 
 use crate::fault::StepFault;
 use crate::kernel::{Place, kernel};
-use crate::vector::{CombVector, Path, copy_of, value_at, with_label};
+use crate::key::{Path, key_of};
+use crate::vector::{CombVector, value_at, with_label};
 use comb_laws::Operator;
 use ring_laws::{Overflow, StarRing, add_product, is_zero, sum_over_labels};
 use std::alloc::{AllocError, Global};
@@ -72,14 +74,19 @@ fn acted_term<R: StarRing>(
     requires action { IsAction category.now.rules.count action.now.operator action.now.strands.now action.now.after.now action.now.gap }
     requires along { IsAlong category.now.rules.count (length action.now.strands.now) path.now.items }
     requires label { t < category.now.rules.count }
-    requires members { AreMembers (R.ring category.now.ring) vector.now }
+    requires members { AreMembers (R.ring category.now.ring) action.now.strands.now vector.now }
     requires sum { IsMember R.StarRing category.now sum }
     ensures value { let c = symbols R.StarRing category.now in
-        Gives result (acted_step c action.now.strands.now action.now.gap (kernel_at c action.now.operator) (vector_of c.ring vector.now) path.now.items t sum) }
+        Gives result (acted_step c action.now.strands.now action.now.gap (kernel_at c action.now.operator) (vector_of c.ring action.now.strands.now vector.now) path.now.items t sum) }
     ensures member { IfOk result (λ z. IsMember R.StarRing category.now z) }
 {
     let k = action.gap;
-    let old = value_at(category.ring(), vector, &with_label(path, k, t));
+    let old = value_at(
+        category.ring(),
+        action.strands,
+        vector,
+        &with_label(path, k, t),
+    );
     if is_zero(category.ring(), &old) {
         return Ok(sum);
     }
@@ -105,9 +112,9 @@ fn acted_at<R: StarRing>(
 ) -> Result<R::Elem, Overflow>
     requires action { IsAction category.now.rules.count action.now.operator action.now.strands.now action.now.after.now action.now.gap }
     requires along { IsAlong category.now.rules.count (length action.now.strands.now) path.now.items }
-    requires members { AreMembers (R.ring category.now.ring) vector.now }
+    requires members { AreMembers (R.ring category.now.ring) action.now.strands.now vector.now }
     ensures value { let c = symbols R.StarRing category.now in
-        Gives result (spec_acted_at c action.now.strands.now action.now.after.now action.now.gap (kernel_at c action.now.operator) (vector_of c.ring vector.now) path.now.items) }
+        Gives result (spec_acted_at c action.now.strands.now action.now.after.now action.now.gap (kernel_at c action.now.operator) (vector_of c.ring action.now.strands.now vector.now) path.now.items) }
     ensures member { IfOk result (λ z. IsMember R.StarRing category.now z) }
 {
     if !is_path(category, action.after, path.as_slice()) {
@@ -118,7 +125,7 @@ fn acted_at<R: StarRing>(
     })
 }
 
-/// Gives a path its value, unless that is zero.
+/// Gives the key of a path its value, unless that is zero.
 fn put_unless_zero<R: StarRing>(
     ring: &R,
     vector: &mut CombVector<R>,
@@ -126,13 +133,13 @@ fn put_unless_zero<R: StarRing>(
     value: R::Elem,
 ) -> Result<(), AllocError>
     requires { IsTrue ((R.ring ring.now).member value) }
-    ensures { OnOk result ((x : List ℕ) → entry_at vector.new x ≡ (if R.held.is_zero value then entry_at vector.old x
-        else (if bytes_eq path.now.items x then Some value else entry_at vector.old x))) }
+    ensures { OnOk result ((strands x : List ℕ) → entry_at strands vector.new x ≡ (if R.held.is_zero value then entry_at strands vector.old x
+        else (if bytes_eq (path_of strands (drop 2 path.now.items)) x then Some value else entry_at strands vector.old x))) }
 {
     if is_zero(ring, &value) {
         return Ok(());
     }
-    vector.put(copy_of(path), value)
+    vector.put(key_of(path), value)
 }
 
 /// The entries of an operator's vector at these paths.
@@ -144,19 +151,20 @@ fn gather<R: StarRing>(
     targets: &[Path],
 ) -> Result<CombVector<R>, StepFault>
     requires action { IsAction category.now.rules.count action.now.operator action.now.strands.now action.now.after.now action.now.gap }
-    requires members { AreMembers (R.ring category.now.ring) vector.now }
+    requires members { AreMembers (R.ring category.now.ring) action.now.strands.now vector.now }
+    requires rules { AreRules category.now.rules }
     requires targets { All (λ p. IsAlong category.now.rules.count (length action.now.strands.now) p.items) targets.now }
     ensures entries { let c = symbols R.StarRing category.now in
-        IfOk result (λ new. (x : List ℕ) → entry_at new x
-        ≡ gathered c.held (acted c action.now.strands.now action.now.after.now action.now.gap (kernel_of c action.now.operator) (vector_of c.ring vector.now)) (items_of targets.now) x) }
+        IfOk result (λ new. (x : List ℕ) → entry_at action.now.after.now new x
+        ≡ gathered c.held (acted c action.now.strands.now action.now.after.now action.now.gap (kernel_of c action.now.operator) (vector_of c.ring action.now.strands.now vector.now)) (items_of targets.now) x) }
     // Each item fits.
     ensures fits { let c = symbols R.StarRing category.now in
         IfOk result (λ _. (x : List ℕ) → among x (items_of targets.now) ≡ true
-        → is_some (spec_acted_at c action.now.strands.now action.now.after.now action.now.gap (kernel_at c action.now.operator) (vector_of c.ring vector.now) x) ≡ true) }
+        → is_some (spec_acted_at c action.now.strands.now action.now.after.now action.now.gap (kernel_at c action.now.operator) (vector_of c.ring action.now.strands.now vector.now) x) ≡ true) }
     // A stop comes only where an item doesn't.
     ensures too_large { let c = symbols R.StarRing category.now in
         IsErrOf result StepFault.TooLarge → (x : List ℕ) × (among x (items_of targets.now) ≡ true)
-        × (spec_acted_at c action.now.strands.now action.now.after.now action.now.gap (kernel_at c action.now.operator) (vector_of c.ring vector.now) x ≡ None) }
+        × (spec_acted_at c action.now.strands.now action.now.after.now action.now.gap (kernel_at c action.now.operator) (vector_of c.ring action.now.strands.now vector.now) x ≡ None) }
 {
     let mut new = CombVector::new(alloc);
     for target in targets {
@@ -178,13 +186,13 @@ pub(crate) fn act<R: StarRing>(
     requires action { IsAction category.now.rules.count action.now.operator action.now.strands.now action.now.after.now action.now.gap }
     requires entries { AreEntries (symbols R.StarRing category.now) action.now.strands.now vector.now }
     ensures vector { let c = symbols R.StarRing category.now in
-        IfOk result (λ new. vector_of c.ring new ≡ acted c action.now.strands.now action.now.after.now action.now.gap (kernel_of c action.now.operator) (vector_of c.ring vector.now)) }
+        IfOk result (λ new. vector_of c.ring action.now.after.now new ≡ acted c action.now.strands.now action.now.after.now action.now.gap (kernel_of c action.now.operator) (vector_of c.ring action.now.strands.now vector.now)) }
     ensures entries { IfOk result (λ new. AreEntries (symbols R.StarRing category.now) action.now.after.now new) }
     ensures fits { let c = symbols R.StarRing category.now in
-        IfOk result (λ _. acted_fits c action.now.strands.now action.now.after.now action.now.gap (kernel_at c action.now.operator) (vector_of c.ring vector.now) ≡ true) }
+        IfOk result (λ _. acted_fits c action.now.strands.now action.now.after.now action.now.gap (kernel_at c action.now.operator) (vector_of c.ring action.now.strands.now vector.now) ≡ true) }
     ensures too_large { let c = symbols R.StarRing category.now in
-        IsErrOf result StepFault.TooLarge → acted_fits c action.now.strands.now action.now.after.now action.now.gap (kernel_at c action.now.operator) (vector_of c.ring vector.now) ≡ false }
+        IsErrOf result StepFault.TooLarge → acted_fits c action.now.strands.now action.now.after.now action.now.gap (kernel_at c action.now.operator) (vector_of c.ring action.now.strands.now vector.now) ≡ false }
 {
-    let targets = vector.targets(alloc, action.gap, category.rules().count())?;
+    let targets = vector.targets(alloc, action.strands, action.gap, category.rules().count())?;
     gather(alloc, category, action, vector, targets.as_slice())
 }

@@ -13,9 +13,10 @@ ghost use Rattle.comb_laws.specs.Plans.{outcomes_of};
 ghost use Rattle.comb_run.specs.Evaluated.{evaluation_of};
 ghost use Rattle.comb_run.specs.Lives.{Runs};
 
+use crate::key::Strands;
 use crate::rows::{Rows, RunFault};
 use crate::run::run;
-use crate::start::{Strands, own_vector, push_leaves};
+use crate::start::{own_vector, push_leaves};
 use comb_laws::laws::left_comb_start;
 use program_text::{Command, Plan};
 use ring_laws::{Overflow, StarRing};

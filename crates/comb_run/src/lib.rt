@@ -1,7 +1,8 @@
 //! The engine of braid programs on left-combed fusion trees, by path.
 //!
 //! Glossary:
-//! - *entries*: a comb vector by the paths whose value isn't zero (`specs/Entries.antt`).
+//! - *key*: the labels of a path's nodes, x_2 .. x_n, which with the strands tell the path (`specs/Entries.antt`, `path_of`).
+//! - *entries*: a comb vector by the keys of the paths whose value isn't zero (`specs/Entries.antt`).
 //! - *stated evaluation*: which products, sums and conjugates arise, in their order (`specs/Evaluated.antt`).
 //! - *live word*: the outcomes so far, and their vector (`specs/Evaluated.antt`, `specs/Lives.antt`).
 //! - *comb run*: the total and the rows of a comb program in a category (`comb_run`).
@@ -11,6 +12,7 @@ mod act;
 mod comb;
 mod fault;
 mod kernel;
+mod key;
 mod live;
 mod rows;
 mod run;

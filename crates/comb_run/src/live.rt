@@ -58,14 +58,14 @@ fn push_outcome<R: StarRing>(
     requires entries { AreEntries (symbols R.StarRing category.now) strands.now vector.now }
     requires words { All (λ w. AreEntries (symbols R.StarRing category.now) strands.now w.vector) words.old.items }
     ensures words { let c = symbols R.StarRing category.now in
-        let v = projected c strands.now k q (vector_of c.ring vector.now) in
-        OnOk result (lives_of c.ring words.new.items ≡ lives_of c.ring words.old.items
+        let v = projected c strands.now k q (vector_of c.ring strands.now vector.now) in
+        OnOk result (lives_of c.ring strands.now words.new.items ≡ lives_of c.ring strands.now words.old.items
         ++ (if is_nought c strands.now v then [] else record { word = q ∷ []; vector = v } ∷ [])) }
     ensures entries { OnOk result (All (λ w. AreEntries (symbols R.StarRing category.now) strands.now w.vector) words.new.items) }
     ensures fits { let c = symbols R.StarRing category.now in
-        OnOk result (projected_fits c strands.now k q (vector_of c.ring vector.now) ≡ true) }
+        OnOk result (projected_fits c strands.now k q (vector_of c.ring strands.now vector.now) ≡ true) }
     ensures too_large { let c = symbols R.StarRing category.now in
-        IsErrOf result StepFault.TooLarge → projected_fits c strands.now k q (vector_of c.ring vector.now) ≡ false }
+        IsErrOf result StepFault.TooLarge → projected_fits c strands.now k q (vector_of c.ring strands.now vector.now) ≡ false }
 {
     let action = Action {
         strands,
@@ -99,12 +99,12 @@ pub(crate) fn outcomes<R: StarRing>(
     requires gap { IsGap category.now.rules.count strands.now k }
     requires entries { AreEntries (symbols R.StarRing category.now) strands.now vector.now }
     ensures words { let c = symbols R.StarRing category.now in
-        IfOk result (λ words. lives_of c.ring words.items ≡ outcomes_at c strands.now k (record { word = []; vector = vector_of c.ring vector.now })) }
+        IfOk result (λ words. lives_of c.ring strands.now words.items ≡ outcomes_at c strands.now k (record { word = []; vector = vector_of c.ring strands.now vector.now })) }
     ensures entries { IfOk result (λ words. All (λ w. AreEntries (symbols R.StarRing category.now) strands.now w.vector) words.items) }
     ensures fits { let c = symbols R.StarRing category.now in
-        IfOk result (λ _. list_all (λ q. projected_fits c strands.now k q (vector_of c.ring vector.now)) (labels c.count) ≡ true) }
+        IfOk result (λ _. list_all (λ q. projected_fits c strands.now k q (vector_of c.ring strands.now vector.now)) (labels c.count) ≡ true) }
     ensures too_large { let c = symbols R.StarRing category.now in
-        IsErrOf result StepFault.TooLarge → list_all (λ q. projected_fits c strands.now k q (vector_of c.ring vector.now)) (labels c.count) ≡ false }
+        IsErrOf result StepFault.TooLarge → list_all (λ q. projected_fits c strands.now k q (vector_of c.ring strands.now vector.now)) (labels c.count) ≡ false }
 {
     let mut words = Vec::new(alloc);
     for q in 0..category.rules().count() {
@@ -123,9 +123,9 @@ fn push_row<R: StarRing>(
 ) -> Result<(), StepFault>
     requires { AreEntries (symbols R.StarRing category.now) strands.now word.now.vector }
     ensures row { let c = symbols R.StarRing category.now in
-        OnOk result (row_step c strands.now (live_of c.ring word.now) (rows_of rows.old.items) ≡ Some (rows_of rows.new.items)) }
+        OnOk result (row_step c strands.now (live_of c.ring strands.now word.now) (rows_of rows.old.items) ≡ Some (rows_of rows.new.items)) }
     ensures too_large { let c = symbols R.StarRing category.now in
-        IsErrOf result StepFault.TooLarge → row_step c strands.now (live_of c.ring word.now) (rows_of rows.old.items) ≡ None }
+        IsErrOf result StepFault.TooLarge → row_step c strands.now (live_of c.ring strands.now word.now) (rows_of rows.old.items) ≡ None }
 {
     let weight = word.vector.weight(category, strands)?;
     if is_zero(category.ring(), &weight) {
@@ -159,9 +159,9 @@ pub(crate) fn rows_of_words<R: StarRing>(
 ) -> Result<Vec<Row<R>>, StepFault>
     requires { All (λ w. AreEntries (symbols R.StarRing category.now) strands.now w.vector) words.now }
     ensures rows { let c = symbols R.StarRing category.now in
-        IfOk result (λ rows. rows_at c strands.now (lives_of c.ring words.now) ≡ Some (rows_of rows.items)) }
+        IfOk result (λ rows. rows_at c strands.now (lives_of c.ring strands.now words.now) ≡ Some (rows_of rows.items)) }
     ensures too_large { let c = symbols R.StarRing category.now in
-        IsErrOf result StepFault.TooLarge → rows_at c strands.now (lives_of c.ring words.now) ≡ None }
+        IsErrOf result StepFault.TooLarge → rows_at c strands.now (lives_of c.ring strands.now words.now) ≡ None }
 {
     let mut rows = Vec::new(alloc);
     for word in words {

@@ -7,14 +7,15 @@ ghost use Rattle.comb_run.specs.Entries.{vector_of, AreEntries};
 ghost use Rattle.comb_run.specs.Evaluated.{braided_fits, rest_of, one_word};
 ghost use Rattle.comb_run.specs.Operations.{IsGap};
 ghost use Rattle.comb_run.specs.Lives.{Runs, rows_of};
+ghost use Rattle.tree_shapes.specs.declared.limits.TheConstants.{STRAND_LIMIT};
 ghost use Rattle.program_text.specs.Form.{is_measured_braid};
 ghost use Rattle.program_text.specs.declared.plan.Command.TheVariants.{Measure};
 
 use crate::act::{Action, act};
 use crate::fault::StepFault;
+use crate::key::Strands;
 use crate::live::{outcomes, rows_of_words};
 use crate::rows::{Row, RunFault};
-use crate::start::Strands;
 use crate::vector::CombVector;
 use comb_laws::Operator;
 use program_text::{Command, Sign};
@@ -54,12 +55,12 @@ fn braid<R: StarRing>(
     ensures labels { OnOk result (All (λ s. s < category.now.rules.count) strands.new.items) }
     ensures same_length { OnOk result (length strands.new.items ≡ length strands.old.items) }
     ensures vector { let c = symbols R.StarRing category.now in
-        OnOk result (vector_of c.ring vector.new ≡ braided c strands.old.items sign k (vector_of c.ring vector.old)) }
+        OnOk result (vector_of c.ring strands.new.items vector.new ≡ braided c strands.old.items sign k (vector_of c.ring strands.old.items vector.old)) }
     ensures entries { OnOk result (AreEntries (symbols R.StarRing category.now) strands.new.items vector.new) }
     ensures fits { let c = symbols R.StarRing category.now in
-        OnOk result (braided_fits c strands.old.items sign k (vector_of c.ring vector.old) ≡ true) }
+        OnOk result (braided_fits c strands.old.items sign k (vector_of c.ring strands.old.items vector.old) ≡ true) }
     ensures too_large { let c = symbols R.StarRing category.now in
-        IsErrOf result StepFault.TooLarge → braided_fits c strands.old.items sign k (vector_of c.ring vector.old) ≡ false }
+        IsErrOf result StepFault.TooLarge → braided_fits c strands.old.items sign k (vector_of c.ring strands.old.items vector.old) ≡ false }
 {
     let after = swapped(strands, k);
     let action = Action {
@@ -98,7 +99,7 @@ fn measure<R: StarRing>(
     requires turn { turn < 2 ^ 16 }
     requires entries { AreEntries (symbols R.StarRing category.now) strands.now vector.now }
     ensures { let c = symbols R.StarRing category.now in
-        Runs (λ rows. rows_of rows.items) result (rest_of c turn (Measure k ∷ []) strands.now (one_word (vector_of c.ring vector.now))) }
+        Runs (λ rows. rows_of rows.items) result (rest_of c turn (Measure k ∷ []) strands.now (one_word (vector_of c.ring strands.now vector.now))) }
 {
     let words = match outcomes(alloc, category, strands, usize::from(k), vector) {
         Ok(words) => words,
@@ -121,11 +122,11 @@ pub(crate) fn run<R: StarRing>(
     requires form { is_measured_braid (length strands.items) commands.now ≡ true }
     requires few { length commands.now ≤ 4096 }
     requires some { 0 < category.now.rules.count }
-    requires short { length strands.items ≤ 16 }
+    requires short { length strands.items ≤ STRAND_LIMIT }
     requires labels { All (λ s. s < category.now.rules.count) strands.items }
     requires entries { AreEntries (symbols R.StarRing category.now) strands.items vector }
     ensures { let c = symbols R.StarRing category.now in
-        Runs (λ rows. rows_of rows.items) result (rest_of c 1 commands.now strands.items (one_word (vector_of c.ring vector))) }
+        Runs (λ rows. rows_of rows.items) result (rest_of c 1 commands.now strands.items (one_word (vector_of c.ring strands.items vector))) }
 {
     let mut strands = strands;
     let mut vector = vector;

@@ -4,10 +4,11 @@ ghost use Rattle.std.specs.Prelude.{◌≡◌, ◌<◌, List, All, IsTrue, IfOk,
 ghost use Rattle.ring_laws.specs.Stated.{Gives};
 ghost use Rattle.symbol_table.specs.Category.{symbols};
 ghost use Rattle.comb_laws.specs.Paths.{goes_on, is_path};
+ghost use Rattle.comb_run.specs.Entries.{path_of};
 ghost use Rattle.comb_run.specs.Evaluated.{weights_along_at, path_weight_at, weight_term_at};
 ghost use Rattle.symbol_table.specs.Draft.{IsMember};
 
-use crate::vector::Path;
+use crate::key::Key;
 use ring_laws::{Overflow, StarRing};
 use symbol_table::{Category, VIndex};
 
@@ -35,23 +36,20 @@ fn weights_along<R: StarRing>(
     weights_along(category, next, *x, ss, xs)
 }
 
-/// The product of the weights along a path, begun after the first strand.
+/// The product of the weights along the path of a key, begun after the first strand.
 fn path_weight<R: StarRing>(
     category: &Category<R>,
     strands: &[u8],
-    path: &[u8],
+    key: &[u8],
 ) -> Result<R::Elem, Overflow>
-    requires { is_path (symbols R.StarRing category.now) strands.now path.now ≡ true }
-    ensures value { Gives result (path_weight_at (symbols R.StarRing category.now) strands.now path.now) }
+    requires { is_path (symbols R.StarRing category.now) strands.now (path_of strands.now key.now) ≡ true }
+    ensures value { Gives result (path_weight_at (symbols R.StarRing category.now) strands.now (path_of strands.now key.now)) }
     ensures member { IfOk result (λ z. IsMember R.StarRing category.now z) }
 {
-    let [_, ss @ ..] = strands else {
+    let [s, ss @ ..] = strands else {
         return Ok(category.ring().one());
     };
-    let [_, x, xs @ ..] = path else {
-        return Ok(category.ring().one());
-    };
-    weights_along(category, category.ring().one(), *x, ss, xs)
+    weights_along(category, category.ring().one(), *s, ss, key)
 }
 
 /// One more path of a weight.
@@ -73,21 +71,21 @@ fn weight_term<R: StarRing>(
     ring.add(sum, &term)
 }
 
-/// A sum with the term of one path more.
+/// A sum with the term of one path more, given by its key.
 pub(crate) fn add_path<R: StarRing>(
     category: &Category<R>,
     strands: &[u8],
-    path: &Path,
+    key: &Key,
     value: &R::Elem,
     sum: &R::Elem,
 ) -> Result<R::Elem, Overflow>
-    requires path { is_path (symbols R.StarRing category.now) strands.now path.now.items ≡ true }
+    requires path { is_path (symbols R.StarRing category.now) strands.now (path_of strands.now key.now.items) ≡ true }
     requires value { IsMember R.StarRing category.now value.now }
     requires sum { IsMember R.StarRing category.now sum.now }
     ensures value { let c = symbols R.StarRing category.now in
-        Gives result (weight_term_at c.ring (path_weight_at c strands.now path.now.items) value.now sum.now) }
+        Gives result (weight_term_at c.ring (path_weight_at c strands.now (path_of strands.now key.now.items)) value.now sum.now) }
     ensures member { IfOk result (λ z. IsMember R.StarRing category.now z) }
 {
-    let weights = path_weight(category, strands, path.as_slice())?;
+    let weights = path_weight(category, strands, key.as_slice())?;
     weight_term(category.ring(), &weights, value, sum)
 }

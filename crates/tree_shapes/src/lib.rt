@@ -10,8 +10,10 @@ ghost use Rattle.std.specs.Prelude.{◌≡◌, IfOk};
 ghost use Rattle.tree_shapes.specs.Views.{labelled};
 ghost use Rattle.tree_shapes.specs.Labelled.{Joined, Strand, is_strand, is_left_comb as is_comb};
 
+mod limits;
 mod tree;
 
+pub use limits::{KEY_LIMIT, STRAND_LIMIT};
 use std::alloc::{AllocError, Global};
 pub use tree::{Fork, Tree};
 

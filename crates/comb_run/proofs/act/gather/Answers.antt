@@ -1,12 +1,15 @@
-use Rattle.std.proofs.Common.{arith, ◌≡◌, ◌++◌, ◌+◌, [], ◌∷◌, take, Some}
+use Rattle.std.proofs.Common.{arith, ◌≡◌, ◌∙◌, ◌++◌, ◌+◌, [], ◌∷◌, false, take, drop, ap, sym, Some}
 use Rattle.symbol_table.specs.Draft.{given}
 use Rattle.symbol_table.specs.Category.{draft_symbols}
 use Rattle.comb_laws.specs.Operators.{acted}
 use Rattle.comb_run.specs.Operations.{kernel_at}
 use Rattle.comb_laws.specs.Operators.{kernel_of}
 use Rattle.comb_run.specs.Evaluated.{acted_at}
-use Rattle.comb_run.specs.Entries.{vector_of, items_of, entry_at}
+use Rattle.comb_run.specs.Entries.{path_of, vector_of, items_of, entry_at}
 use Rattle.comb_run.proofs.Gather.{gathered_step, items_more, fits_step, among_item, vector_members}
+use Rattle.comb_run.proofs.ActLemmas.{on_path}
+use Rattle.comb_run.proofs.EntryLemmas.{put_there}
+use Rattle.comb_run.proofs.KeyLemmas.{path_keyed, unit_same}
 use Rattle.comb_run.proofs.Values.{acted_value}
 use Rattle.comb_run.proofs.act.gather.Goals as goal
 
@@ -16,7 +19,7 @@ loop-target-preserved g c =
     let r = g.R.StarRing.ring base in
     let laws = g.met.R.StarRing.laws base in
     let s = draft_symbols r g.R.StarRing.held c.args.category.now in
-    let v = vector_of r c.args.vector.now in
+    let v = vector_of r c.args.action.now.strands.now c.args.vector.now in
     let a = c.target-item.result.items in
     let i = c.loop-target.target-index in
     let done = items_of (take i c.args.targets.now) in
@@ -24,10 +27,17 @@ loop-target-preserved g c =
     let P = acted s c.args.action.now.strands.now c.args.action.now.after.now c.args.action.now.gap (kernel_of s c.args.action.now.operator) v in
     let stated : S a ≡ Some c.in_ok-value.value = c.in_ok-value.ensures.value in
     let value : c.in_ok-value.value ≡ P a =
-    acted_value laws (given c.args.category.now) c.args.action.now.operator c.args.action.now.strands.now c.args.action.now.after.now c.args.action.now.gap v (vector_members laws c.args.vector.now c.requires.members) a c.in_ok-value.value stated in
+    acted_value laws (given c.args.category.now) c.args.action.now.operator c.args.action.now.strands.now c.args.action.now.after.now c.args.action.now.gap v (vector_members laws c.args.action.now.strands.now c.args.vector.now c.requires.members) a c.in_ok-value.value stated in
+    let after = c.args.action.now.after.now in
+    let old = entry_at after c.loop-target.new in
+    let new = entry_at after c.put_unless_zero.new.vector in
+    let keyed : g.R.StarRing.held.is_zero c.in_ok-value.value ≡ false → path_of after (drop 2 a) ≡ a =
+    (λ some. path_keyed s (unit_same c.args.category.now.rules c.requires.rules) after a (omega arith)
+    (on_path s laws c.args.action.now.strands.now after c.args.action.now.gap (kernel_of s c.args.action.now.operator) v a (ap g.R.StarRing.held.is_zero (sym value) ∙ some))) in
+    let put = put_there old new a (path_of after (drop 2 a)) c.in_ok-value.value (g.R.StarRing.held.is_zero c.in_ok-value.value) keyed (c.in_ok-put_unless_zero.ensures after) in
     let more : items_of (take (i + 1) c.args.targets.now) ≡ done ++ a ∷ [] = items_more c.args.targets.now i c.target-item.result c.target-item.is (omega arith) in
     record {
-      entries = λ x. rw more (gathered_step g.R.StarRing.held P (entry_at c.loop-target.new) (entry_at c.put_unless_zero.new.vector) done a c.in_ok-value.value value c.in_ok-put_unless_zero.ensures c.loop-target.invariant.entries x);
+      entries = λ x. rw more (gathered_step g.R.StarRing.held P old new done a c.in_ok-value.value value put c.loop-target.invariant.entries x);
       fits = λ x. rw more (fits_step S done a c.in_ok-value.value stated c.loop-target.invariant.fits x);
     }
 

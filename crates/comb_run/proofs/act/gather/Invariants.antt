@@ -12,9 +12,9 @@ use Rattle.comb_run.proofs.act.gather.Given as goal
 abbrev pub invariant-loop-target : goal.invariant-loop-target
 invariant-loop-target g l =
     let c = draft_symbols (g.R.StarRing.ring l.category.ring) g.R.StarRing.held l.category in
-    let v = vector_of c.ring l.vector in
+    let v = vector_of c.ring l.action.strands.now l.vector in
     let done = items_of (take l.target-index l.targets) in
     record {
-      entries : (x : List ℕ) → entry_at l.new x ≡ gathered c.held (acted c l.action.strands.now l.action.after.now l.action.gap (kernel_of c l.action.operator) v) done x;
+      entries : (x : List ℕ) → entry_at l.action.after.now l.new x ≡ gathered c.held (acted c l.action.strands.now l.action.after.now l.action.gap (kernel_of c l.action.operator) v) done x;
       fits : (x : List ℕ) → among x done ≡ true → is_some (acted_at c l.action.strands.now l.action.after.now l.action.gap (kernel_at c l.action.operator) v x) ≡ true;
     }

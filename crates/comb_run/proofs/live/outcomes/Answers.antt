@@ -14,15 +14,15 @@ returns-in_err-push_outcome-clause-too_large g c e =
     let s = draft_symbols (g.R.StarRing.ring c.args.category.now.ring) g.R.StarRing.held c.args.category.now in
     let p = err_from_is_err_and c.from_residual.result c.from_residual.ensures.1 in
     let low : c.loop-q.q < c.args.category.now.rules.count = omega (arith, c.count-q-end.ensures.count, ap (λ (r : Fusion). r.count) c.rules.ensures) in
-    labels_fail (λ q. projected_fits s c.args.strands.now c.args.k q (vector_of s.ring c.args.vector.now)) s.count c.loop-q.q low
+    labels_fail (λ q. projected_fits s c.args.strands.now c.args.k q (vector_of s.ring c.args.strands.now c.args.vector.now)) s.count c.loop-q.q low
     (c.in_err-push_outcome.ensures.too_large (ap Err (err_same c.from_residual.result c.in_err-push_outcome.field-0.0 TooLarge (p.1 ∙ ap Err p.2) e)))
 
 pub loop-q-preserved : goal.loop-q-preserved
 loop-q-preserved g c =
     let s = draft_symbols (g.R.StarRing.ring c.args.category.now.ring) g.R.StarRing.held c.args.category.now in
-    let v = vector_of s.ring c.args.vector.now in
+    let v = vector_of s.ring c.args.strands.now c.args.vector.now in
     record {
-      words = outcomes_more s c.args.strands.now c.args.k v c.loop-q.q (lives_of s.ring c.loop-q.words.items) (lives_of s.ring c.push_outcome.new.words.items) c.in_ok-push_outcome.ensures.words c.loop-q.invariant.words;
+      words = outcomes_more s c.args.strands.now c.args.k v c.loop-q.q (lives_of s.ring c.args.strands.now c.loop-q.words.items) (lives_of s.ring c.args.strands.now c.push_outcome.new.words.items) c.in_ok-push_outcome.ensures.words c.loop-q.invariant.words;
       entries = c.in_ok-push_outcome.ensures.entries;
       fits = labels_pass (λ q. projected_fits s c.args.strands.now c.args.k q v) c.loop-q.q c.in_ok-push_outcome.ensures.fits c.loop-q.invariant.fits;
     }

@@ -13,9 +13,9 @@ use Rattle.comb_run.proofs.live.outcomes.Given as goal
 abbrev pub invariant-loop-q : goal.invariant-loop-q
 invariant-loop-q g l =
     let c = draft_symbols (g.R.StarRing.ring l.category.ring) g.R.StarRing.held l.category in
-    let v = vector_of c.ring l.vector in
+    let v = vector_of c.ring l.strands l.vector in
     record {
-      words : lives_of c.ring l.words.items ≡ outcomes_below c l.strands l.k v l.q;
+      words : lives_of c.ring l.strands l.words.items ≡ outcomes_below c l.strands l.k v l.q;
       entries : All (λ w. AreEntries c l.strands w.vector) l.words.items;
       fits : list_all (λ q. projected_fits c l.strands l.k q v) (labels l.q) ≡ true;
     }

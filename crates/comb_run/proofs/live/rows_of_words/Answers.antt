@@ -20,12 +20,12 @@ pub loop-word-preserved : goal.loop-word-preserved
 loop-word-preserved g c =
     let s = draft_symbols (g.R.StarRing.ring c.args.category.now.ring) g.R.StarRing.held c.args.category.now in
     rows_next s c.args.strands.now c.args.words.now c.loop-word.word-index c.word-item.result c.word-item.is (omega arith) (rows_of c.loop-word.rows.items)
-    (rows_at s c.args.strands.now (lives_of s.ring c.args.words.now)) c.loop-word.invariant (rows_of c.push_row.new.rows.items) c.in_ok-push_row.ensures.row
+    (rows_at s c.args.strands.now (lives_of s.ring c.args.strands.now c.args.words.now)) c.loop-word.invariant (rows_of c.push_row.new.rows.items) c.in_ok-push_row.ensures.row
 
 pub returns-in_err-push_row-clause-too_large : goal.returns-in_err-push_row-clause-too_large
 returns-in_err-push_row-clause-too_large g c e =
     let s = draft_symbols (g.R.StarRing.ring c.args.category.now.ring) g.R.StarRing.held c.args.category.now in
     let p = err_from_is_err_and c.from_residual.result c.from_residual.ensures.1 in
     rows_stop s c.args.strands.now c.args.words.now c.loop-word.word-index c.word-item.result c.word-item.is (omega arith) (rows_of c.loop-word.rows.items)
-    (rows_at s c.args.strands.now (lives_of s.ring c.args.words.now)) c.loop-word.invariant
+    (rows_at s c.args.strands.now (lives_of s.ring c.args.strands.now c.args.words.now)) c.loop-word.invariant
     (c.in_err-push_row.ensures.too_large (ap Err (err_same c.from_residual.result c.in_err-push_row.field-0.0 TooLarge (p.1 ∙ ap Err p.2) e)))

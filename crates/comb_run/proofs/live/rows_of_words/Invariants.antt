@@ -9,4 +9,4 @@ use Rattle.comb_run.proofs.live.rows_of_words.Given as goal
 abbrev pub invariant-loop-word : goal.invariant-loop-word
 invariant-loop-word g l =
     let c = draft_symbols (g.R.StarRing.ring l.category.ring) g.R.StarRing.held l.category in
-    steps_over (row_step c l.strands) (lives_of c.ring (drop l.word-index l.words)) (rows_of l.rows.items) ≡ rows_at c l.strands (lives_of c.ring l.words)
+    steps_over (row_step c l.strands) (lives_of c.ring l.strands (drop l.word-index l.words)) (rows_of l.rows.items) ≡ rows_at c l.strands (lives_of c.ring l.strands l.words)

@@ -11,12 +11,12 @@ returns-then-has g c =
     let x = c.args.path.now.items in
     let end = ap (λ (xs : List ℕ). slice_index xs c.args.k) c.as_slice.ensures.value in
     let low : c.loop-label.label < slice_index x c.args.k = omega (arith, end) in
-    sym (labels_fail (λ m. not (is_some (entry_at c.args.self.now (slice_set x c.args.k m)))) (slice_index x c.args.k) c.loop-label.label low
-    (ap (λ (y : List ℕ). not (is_some (entry_at c.args.self.now y))) (sym c.with_label.ensures) ∙ ap (λ (b : Bool). not b) (sym c.has.ensures ∙ c.if-has.true)))
+    sym (labels_fail (λ m. not (is_some (entry_at c.args.strands.now c.args.self.now (slice_set x c.args.k m)))) (slice_index x c.args.k) c.loop-label.label low
+    (ap (λ (y : List ℕ). not (is_some (entry_at c.args.strands.now c.args.self.now y))) (sym c.with_label.ensures) ∙ ap (λ (b : Bool). not b) (sym c.has.ensures ∙ c.if-has.true)))
 
 pub returns : goal.returns
 returns g c =
     let x = c.args.path.now.items in
     let end = ap (λ (xs : List ℕ). slice_index xs c.args.k) c.as_slice.ensures.value in
     let same : slice_index x c.args.k ≡ c.loop-label.label = omega (arith, end) in
-    sym (ap (λ (n : ℕ). list_all (λ m. not (is_some (entry_at c.args.self.now (slice_set x c.args.k m)))) (labels n)) same ∙ c.loop-label.invariant)
+    sym (ap (λ (n : ℕ). list_all (λ m. not (is_some (entry_at c.args.strands.now c.args.self.now (slice_set x c.args.k m)))) (labels n)) same ∙ c.loop-label.invariant)

@@ -7,4 +7,4 @@ use Rattle.comb_run.proofs.vector.CombVector.is_first.Given as goal
 
 -- none of the labels so far has an entry
 abbrev pub invariant-loop-label : goal.invariant-loop-label
-invariant-loop-label g l = list_all (λ m. not (is_some (entry_at l.self (slice_set l.path.items l.k m)))) (labels l.label) ≡ true
+invariant-loop-label g l = list_all (λ m. not (is_some (entry_at l.strands l.self (slice_set l.path.items l.k m)))) (labels l.label) ≡ true

@@ -9,14 +9,14 @@ use Rattle.comb_run.proofs.WeightLemmas.{entry_step, IsEntry}
 use Rattle.comb_run.proofs.vector.CombVector.weight.Given as goal
 
 -- what is left gives the weight
-abbrev pub invariant-loop-path : goal.invariant-loop-path
-invariant-loop-path g l =
+abbrev pub invariant-loop-key : goal.invariant-loop-key
+invariant-loop-key g l =
     let r = g.R.StarRing.ring l.category.ring in
     let c = draft_symbols r g.R.StarRing.held l.category in
     record {
-      steps : (goal.iterator-loop-path g).can_next l.path-iterator;
-      ends : (goal.iterator-loop-path g).is_finite l.path-iterator;
-      entries : AllByRecursion (IsEntry c l.strands) l.path-iterator;
-      left : steps_over (entry_step c l.strands) l.path-iterator l.sum ≡ weight_at c l.strands (vector_of r l.self);
+      steps : (goal.iterator-loop-key g).can_next l.key-iterator;
+      ends : (goal.iterator-loop-key g).is_finite l.key-iterator;
+      entries : AllByRecursion (IsEntry c l.strands) l.key-iterator;
+      left : steps_over (entry_step c l.strands) l.key-iterator l.sum ≡ weight_at c l.strands (vector_of r l.strands l.self);
       is_member : IsTrue (r.member l.sum);
     }
