@@ -2,6 +2,7 @@
 //!
 //! Glossary:
 //! - *entries*: a comb vector by the paths whose value isn't zero (`specs/Entries.antt`).
+//! - *kept kernels*: the kernels of one operator by their six labels, each evaluated once (`specs/Kept.antt`).
 //! - *stated evaluation*: which products, sums and conjugates arise, in their order (`specs/Evaluated.antt`).
 //! - *live word*: the outcomes so far, and their vector (`specs/Evaluated.antt`, `specs/Lives.antt`).
 //! - *comb run*: the total and the rows of a comb program in a category (`comb_run`).
@@ -11,6 +12,7 @@ mod act;
 mod comb;
 mod fault;
 mod kernel;
+mod kernels;
 mod live;
 mod rows;
 mod run;
