@@ -119,12 +119,5 @@ impl<R: StarRing> Kernels<R> {
 fn six_labels(place: &Place) -> SixLabels
     ensures { result.items ≡ labels_of place.now }
 {
-    let mut labels = SixLabels::new();
-    labels.push(place.p);
-    labels.push(place.a);
-    labels.push(place.b);
-    labels.push(place.y);
-    labels.push(place.t);
-    labels.push(place.u);
-    labels
+    SixLabels::from([place.p, place.a, place.b, place.y, place.t, place.u])
 }

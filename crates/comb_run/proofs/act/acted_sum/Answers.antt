@@ -1,4 +1,4 @@
-use Rattle.std.proofs.Common.{◌≡◌, ◌<◌, ◌∙◌, sym, ap, Err, arith}
+use Rattle.std.proofs.Common.{◌<◌, ◌∙◌, sym, ap, Err, arith}
 use Rattle.std.proofs.lemmas.Result.{err_from_is_err_and}
 use Rattle.fusion_rules.specs.Fusion.{Fusion}
 use Rattle.ring_laws.proofs.StatedLemmas.{steps_one, steps_none}
