@@ -3,6 +3,7 @@ pub mod ActLemmas
 pub mod CombLemmas
 pub mod EntryLemmas
 pub mod Gather
+pub mod KeptLemmas
 pub mod KeyLemmas
 pub mod LiveLemmas
 pub mod OrderLemmas

@@ -3,7 +3,7 @@
 ghost use Rattle.std.specs.Prelude.{◌≡◌, ◌<◌, ◌≤◌, ◌+◌, ◌-◌, ℕ, List, All, IsTrue, drop, IfOk, OnOk, IsErrOf, length, true, false, is_some, Some, None, if◌then◌else◌};
 ghost use Rattle.std.specs.Str.{bytes_eq};
 ghost use Rattle.std.specs.Map.{keys_of};
-ghost use Rattle.ring_laws.specs.Stated.{Gives};
+ghost use Rattle.ring_laws.specs.Stated.{steps};
 ghost use Rattle.fusion_rules.specs.Fusion.{AreRules};
 ghost use Rattle.symbol_table.specs.Category.{symbols};
 ghost use Rattle.comb_laws.specs.Paths.{goes_on as spec_goes_on, is_path as spec_is_path};
@@ -12,15 +12,17 @@ ghost use Rattle.comb_laws.specs.Paths.{IsAlong};
 ghost use Rattle.comb_laws.specs.Operators.{acted};
 ghost use Rattle.comb_run.specs.Evaluated.{acted_step, acted_at as spec_acted_at, acted_fits};
 ghost use Rattle.comb_run.specs.Operations.{kernel_at, IsAction};
+ghost use Rattle.comb_run.specs.Kept.{AreKept};
 ghost use Rattle.comb_laws.specs.Operators.{kernel_of};
 ghost use Rattle.symbol_table.specs.Draft.{IsMember};
 
 use crate::fault::StepFault;
-use crate::kernel::{Place, kernel};
+use crate::kernel::Place;
+use crate::kernels::Kernels;
 use crate::key::{Path, key_of};
 use crate::vector::{CombVector, value_at, with_label};
 use comb_laws::Operator;
-use ring_laws::{Overflow, StarRing, add_product, is_zero, sum_over_labels};
+use ring_laws::{StarRing, add_product, is_zero};
 use std::alloc::{AllocError, Global};
 use symbol_table::Category;
 
@@ -70,15 +72,20 @@ fn acted_term<R: StarRing>(
     path: &Path,
     t: u8,
     sum: R::Elem,
-) -> Result<R::Elem, Overflow>
+    kernels: &mut Kernels<R>,
+) -> Result<R::Elem, StepFault>
     requires action { IsAction category.now.rules.count action.now.operator action.now.strands.now action.now.after.now action.now.gap }
     requires along { IsAlong category.now.rules.count (length action.now.strands.now) path.now.items }
     requires label { t < category.now.rules.count }
     requires members { AreMembers (R.ring category.now.ring) action.now.strands.now vector.now }
     requires sum { IsMember R.StarRing category.now sum }
+    requires kept { let c = symbols R.StarRing category.now in AreKept c.ring (kernel_at c action.now.operator) kernels.old }
     ensures value { let c = symbols R.StarRing category.now in
-        Gives result (acted_step c action.now.strands.now action.now.gap (kernel_at c action.now.operator) (vector_of c.ring action.now.strands.now vector.now) path.now.items t sum) }
+        IfOk result (λ z. acted_step c action.now.strands.now action.now.gap (kernel_at c action.now.operator) (vector_of c.ring action.now.strands.now vector.now) path.now.items t sum ≡ Some z) }
     ensures member { IfOk result (λ z. IsMember R.StarRing category.now z) }
+    ensures too_large { let c = symbols R.StarRing category.now in
+        IsErrOf result StepFault.TooLarge → acted_step c action.now.strands.now action.now.gap (kernel_at c action.now.operator) (vector_of c.ring action.now.strands.now vector.now) path.now.items t sum ≡ None }
+    ensures kept { let c = symbols R.StarRing category.now in AreKept c.ring (kernel_at c action.now.operator) kernels.new }
 {
     let k = action.gap;
     let old = value_at(
@@ -99,8 +106,35 @@ fn acted_term<R: StarRing>(
         t,
         u: labels[k],
     };
-    let by = kernel(category, action.operator, &place)?;
-    add_product(category.ring(), &sum, &by, &old)
+    let by = kernels.of(category, action.operator, &place)?;
+    let added = add_product(category.ring(), &sum, &by, &old)?;
+    Ok(added)
+}
+
+/// The sum over the labels t of the terms in the new value at a path.
+fn acted_sum<R: StarRing>(
+    category: &Category<R>,
+    action: &Action,
+    vector: &CombVector<R>,
+    path: &Path,
+    kernels: &mut Kernels<R>,
+) -> Result<R::Elem, StepFault>
+    requires action { IsAction category.now.rules.count action.now.operator action.now.strands.now action.now.after.now action.now.gap }
+    requires along { IsAlong category.now.rules.count (length action.now.strands.now) path.now.items }
+    requires members { AreMembers (R.ring category.now.ring) action.now.strands.now vector.now }
+    requires kept { let c = symbols R.StarRing category.now in AreKept c.ring (kernel_at c action.now.operator) kernels.old }
+    ensures value { let c = symbols R.StarRing category.now in
+        IfOk result (λ z. steps (acted_step c action.now.strands.now action.now.gap (kernel_at c action.now.operator) (vector_of c.ring action.now.strands.now vector.now) path.now.items) 0 c.count c.ring.zero ≡ Some z) }
+    ensures member { IfOk result (λ z. IsMember R.StarRing category.now z) }
+    ensures too_large { let c = symbols R.StarRing category.now in
+        IsErrOf result StepFault.TooLarge → steps (acted_step c action.now.strands.now action.now.gap (kernel_at c action.now.operator) (vector_of c.ring action.now.strands.now vector.now) path.now.items) 0 c.count c.ring.zero ≡ None }
+    ensures kept { let c = symbols R.StarRing category.now in AreKept c.ring (kernel_at c action.now.operator) kernels.new }
+{
+    let mut sum = category.ring().zero();
+    for t in 0..category.rules().count() {
+        sum = acted_term(category, action, vector, path, t, sum, kernels)?;
+    }
+    Ok(sum)
 }
 
 /// The new value at a path over the strands that the operator leaves.
@@ -109,20 +143,23 @@ fn acted_at<R: StarRing>(
     action: &Action,
     vector: &CombVector<R>,
     path: &Path,
-) -> Result<R::Elem, Overflow>
+    kernels: &mut Kernels<R>,
+) -> Result<R::Elem, StepFault>
     requires action { IsAction category.now.rules.count action.now.operator action.now.strands.now action.now.after.now action.now.gap }
     requires along { IsAlong category.now.rules.count (length action.now.strands.now) path.now.items }
     requires members { AreMembers (R.ring category.now.ring) action.now.strands.now vector.now }
+    requires kept { let c = symbols R.StarRing category.now in AreKept c.ring (kernel_at c action.now.operator) kernels.old }
     ensures value { let c = symbols R.StarRing category.now in
-        Gives result (spec_acted_at c action.now.strands.now action.now.after.now action.now.gap (kernel_at c action.now.operator) (vector_of c.ring action.now.strands.now vector.now) path.now.items) }
+        IfOk result (λ z. spec_acted_at c action.now.strands.now action.now.after.now action.now.gap (kernel_at c action.now.operator) (vector_of c.ring action.now.strands.now vector.now) path.now.items ≡ Some z) }
     ensures member { IfOk result (λ z. IsMember R.StarRing category.now z) }
+    ensures too_large { let c = symbols R.StarRing category.now in
+        IsErrOf result StepFault.TooLarge → spec_acted_at c action.now.strands.now action.now.after.now action.now.gap (kernel_at c action.now.operator) (vector_of c.ring action.now.strands.now vector.now) path.now.items ≡ None }
+    ensures kept { let c = symbols R.StarRing category.now in AreKept c.ring (kernel_at c action.now.operator) kernels.new }
 {
     if !is_path(category, action.after, path.as_slice()) {
         return Ok(category.ring().zero());
     }
-    sum_over_labels(category.ring(), category.rules().count(), |t, sum| {
-        acted_term(category, action, vector, path, t, sum)
-    })
+    acted_sum(category, action, vector, path, kernels)
 }
 
 /// Gives the key of a path its value, unless that is zero.
@@ -167,8 +204,9 @@ fn gather<R: StarRing>(
         × (spec_acted_at c action.now.strands.now action.now.after.now action.now.gap (kernel_at c action.now.operator) (vector_of c.ring action.now.strands.now vector.now) x ≡ None) }
 {
     let mut new = CombVector::new(alloc);
+    let mut kernels = Kernels::new(alloc);
     for target in targets {
-        let value = acted_at(category, action, vector, target)?;
+        let value = acted_at(category, action, vector, target, &mut kernels)?;
         put_unless_zero(category.ring(), &mut new, target, value)?;
     }
     Ok(new)

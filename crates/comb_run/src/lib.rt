@@ -3,6 +3,7 @@
 //! Glossary:
 //! - *key*: the labels of a path's nodes, x_2 .. x_n, which with the strands tell the path (`specs/Entries.antt`, `path_of`).
 //! - *entries*: a comb vector by the keys of the paths whose value isn't zero (`specs/Entries.antt`).
+//! - *kept kernels*: the kernels of one operator by their six labels, each evaluated once (`specs/Kept.antt`).
 //! - *stated evaluation*: which products, sums and conjugates arise, in their order (`specs/Evaluated.antt`).
 //! - *live word*: the outcomes so far, and their vector (`specs/Evaluated.antt`, `specs/Lives.antt`).
 //! - *comb run*: the total and the rows of a comb program in a category (`comb_run`).
@@ -12,6 +13,7 @@ mod act;
 mod comb;
 mod fault;
 mod kernel;
+mod kernels;
 mod key;
 mod live;
 mod rows;

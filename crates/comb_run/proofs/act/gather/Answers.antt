@@ -1,15 +1,18 @@
-use Rattle.std.proofs.Common.{arith, ◌≡◌, ◌∙◌, ◌++◌, ◌+◌, [], ◌∷◌, false, take, drop, ap, sym, Some}
+use Rattle.std.proofs.Common.{arith, ◌≡◌, ◌∙◌, ◌++◌, ◌+◌, [], ◌∷◌, false, take, drop, ap, sym, Some, Err}
+use Rattle.std.proofs.lemmas.Result.{err_from_is_err_and}
 use Rattle.symbol_table.specs.Draft.{given}
 use Rattle.symbol_table.specs.Category.{draft_symbols}
 use Rattle.comb_laws.specs.Operators.{acted}
 use Rattle.comb_run.specs.Operations.{kernel_at}
 use Rattle.comb_laws.specs.Operators.{kernel_of}
+use Rattle.comb_run.specs.declared.fault.StepFault.TheVariants.{TooLarge}
 use Rattle.comb_run.specs.Evaluated.{acted_at}
 use Rattle.comb_run.specs.Entries.{path_of, vector_of, items_of, entry_at}
 use Rattle.comb_run.proofs.Gather.{gathered_step, items_more, fits_step, among_item, vector_members}
 use Rattle.comb_run.proofs.ActLemmas.{on_path}
 use Rattle.comb_run.proofs.EntryLemmas.{put_there}
 use Rattle.comb_run.proofs.KeyLemmas.{path_keyed, unit_same}
+use Rattle.comb_run.proofs.LiveLemmas.{err_same}
 use Rattle.comb_run.proofs.Values.{acted_value}
 use Rattle.comb_run.proofs.act.gather.Goals as goal
 
@@ -39,12 +42,14 @@ loop-target-preserved g c =
     record {
       entries = λ x. rw more (gathered_step g.R.StarRing.held P old new done a c.in_ok-value.value value put c.loop-target.invariant.entries x);
       fits = λ x. rw more (fits_step S done a c.in_ok-value.value stated c.loop-target.invariant.fits x);
+      kept = c.in_ok-value.ensures.kept;
     }
 
 pub returns-in_err-value-clause-too_large : goal.returns-in_err-value-clause-too_large
-returns-in_err-value-clause-too_large g c _ =
-    let is = c.target-item.is in (
+returns-in_err-value-clause-too_large g c e =
+    let is = c.target-item.is in
+    let p = err_from_is_err_and c.from_residual.result c.from_residual.ensures.1 in (
       c.target-item.result.items,
       rw is (among_item c.args.targets.now c.loop-target.target-index c.target-item.result (omega arith)),
-      c.in_err-value.ensures.value,
+      c.in_err-value.ensures.too_large (ap Err (err_same c.from_residual.result c.in_err-value.field-0.0 TooLarge (p.1 ∙ ap Err p.2) e)),
     )
