@@ -5,7 +5,7 @@ use Rattle.std.specs.List.{flat_map}
 use Rattle.std.proofs.lemmas.List.{append-nil}
 use Rattle.ring_laws.specs.Ring.{RingLaws}
 use Rattle.symbol_table.specs.Symbols.{Symbols}
-use Rattle.tree_shapes.specs.Labelled.{Labelled}
+use Rattle.tree_shapes.specs.Labelled.{Labelled, size}
 use Rattle.program_text.specs.declared.plan.Site.{Site}
 use Rattle.program_text.specs.declared.plan.Command.{Command}
 use Rattle.program_text.specs.Program.{ProgramSite, site_of}
@@ -14,8 +14,8 @@ use Rattle.program_text.specs.Canonical.{is_main}
 use Rattle.comb_laws.specs.Plans.{Outcomes}
 use Rattle.comb_laws.specs.Inner.{inner_outcomes_of}
 use Rattle.comb_run.specs.Evaluated.{evaluation_of}
-use Rattle.comb_run.specs.Lives.{Runs}
-use Rattle.comb_run.specs.declared.rows.RunFault.{RunFault}
+use Rattle.word_runs.specs.Runs.{Runs}
+use Rattle.word_runs.specs.declared.fault.RunFault.{RunFault}
 use Rattle.comb_laws.proofs.PathFacts.{and_true}
 use Rattle.comb_run.proofs.OutcomeLemmas.{evaluation_value}
 
@@ -26,10 +26,10 @@ site_commands n (s ∷ []) site h e = append-nil s.commands.items ∙ ap (λ (t 
 site_commands n (s ∷ t ∷ sites) site h e = absurd (cc)
 
 -- what a run answers are the outcomes of the definitions
-pub outcomes_run : {E V : Type 0} (c : Symbols E) → RingLaws c.ring c.held → (view : V → Outcomes E) (r : Result V RunFault) (tree : Labelled) (n : ℕ) (cs : List Command) → is_measured_braid n cs ≡ true
+pub outcomes_run : {E V : Type 0} (c : Symbols E) → RingLaws c.ring c.held → (view : V → Outcomes E) (r : Result V RunFault) (tree : Labelled) (cs : List Command) → is_measured_braid (size tree) cs ≡ true
     → Runs view r (evaluation_of c tree cs) → IfOk r (λ rows. view rows ≡ inner_outcomes_of c tree cs)
-outcomes_run c laws view (Ok rows) tree n cs form h = evaluation_value c laws tree n cs (view rows) form h
-outcomes_run c laws view (Err fault) tree n cs form h = tt
+outcomes_run c laws view (Ok rows) tree cs form h = evaluation_value c laws tree cs (view rows) form h
+outcomes_run c laws view (Err fault) tree cs form h = tt
 
 -- and they are braids with a measurement behind them
 pub site_form : (n : ℕ) (sites : List Site) (site : Site) → are_comb_sites n (map site_of sites) ≡ true → site ≡ get_or sites 0 site → is_measured_braid n site.commands.items ≡ true

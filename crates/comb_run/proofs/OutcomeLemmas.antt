@@ -1,5 +1,5 @@
 -- What the stated evaluation of a run gives is the total and the rows of the definitions.
-use Rattle.std.proofs.Common.{◌≡◌, ℕ, ◌+◌, Bool, true, false, not, List, [], ◌∷◌, ◌++◌, map, Option, Some, None, refl, ap, sym, ◌∙◌, append_assoc}
+use Rattle.std.proofs.Common.{◌≡◌, ℕ, ◌+◌, Bool, true, false, not, List, [], ◌∷◌, ◌++◌, map, length, Option, Some, None, refl, ap, sym, ◌∙◌, append_assoc}
 use Rattle.std.specs.Prelude.{if◌then◌else◌, IsTrue, Result, Ok, Err}
 use Rattle.std.specs.Str.{bytes_eq}
 use Rattle.std.specs.List.{list_all, filter}
@@ -11,21 +11,27 @@ use Rattle.ring_laws.specs.Stated.{◌>>=◌, product_at, sum_at, conjugate_at, 
 use Rattle.ring_laws.proofs.SumLemmas.{zero-product, zero-sum, sum_over_is}
 use Rattle.ring_laws.proofs.StatedLemmas.{some_inj, bind_some, sum_given, product_given, conjugate_given, steps_over_total}
 use Rattle.symbol_table.specs.Symbols.{Symbols}
-use Rattle.tree_shapes.specs.Labelled.{Labelled, leaves}
+use Rattle.tree_shapes.specs.Labelled.{Labelled, leaves, size}
 use Rattle.program_text.specs.declared.plan.Command.{Command}
 use Rattle.program_text.specs.declared.plan.Command.TheVariants.{Braid, Raise, Measure}
-use Rattle.program_text.specs.Letters.{letters}
+use Rattle.program_text.specs.Letters.{letters, measurements}
+use Rattle.program_text.specs.declared.plan.Sign.{Sign}
+use Rattle.program_text.specs.declared.letter.Letter.TheVariants.{Crossing, Charge}
+use Rattle.word_runs.specs.Runs.{Live, live_after, both, split_by, joined, outcomes_of, ◌>>>◌, fitting, turn_of, run_of, start_word}
+use Rattle.word_runs.specs.declared.engine.Step.TheVariants.{Exchange}
+use Rattle.word_runs.specs.declared.fault.RunFault.{RunFault}
+use Rattle.word_runs.proofs.EachLemmas.{some_same, ok_same, ok_first}
+use Rattle.word_runs.proofs.StepLemmas.{step_of_ok, fitted}
 use Rattle.program_text.specs.Form.{is_gap, is_measured_braid}
 use Rattle.comb_laws.specs.Paths.{Path, Vector, labels, paths}
 use Rattle.comb_laws.specs.Operators.{swapped, braided, projected, weights_along, charge_kernel}
 use Rattle.comb_laws.specs.Amplitudes.{own_path, own_vector}
 use Rattle.comb_laws.specs.Plans.{Outcomes}
 use Rattle.comb_laws.specs.Inner.{inner_path_weight, inner_weight, inner_word_weight, inner_rows_from, inner_outcomes_of}
-use Rattle.comb_run.specs.Evaluated.{braided_fits, weights_along_at, path_weight_at, weight_term_at, weight_step, weight_at, is_nought, outcomes_at, row_step, rows_at, at_turn, ◌>>>◌, rest_of, one_word, evaluation_of}
+use Rattle.comb_run.specs.Evaluated.{braided_fits, weights_along_at, path_weight_at, weight_term_at, weight_step, weight_at, is_nought, State, is_part, part_of, parts_at, row_step, rows_at, comb_told, rest_of, evaluation_of}
 use Rattle.comb_laws.proofs.PathFacts.{and_true}
 use Rattle.comb_run.proofs.ActLemmas.{acted_is}
-use Rattle.comb_run.proofs.LiveLemmas.{outcome}
-use Rattle.comb_run.proofs.RunLemmas.{all_fit, measured, measured_fails, braid_one, braid_fails}
+use Rattle.comb_run.proofs.PartLemmas.{all_fit}
 
 weights_along_value : {E : Type 0} (c : Symbols E) (ss xs : List ℕ) (begun : E) (p : ℕ) (w : E) → weights_along_at c begun p ss xs ≡ Some w → w ≡ weights_along c begun p ss xs
 weights_along_value c [] xs begun p w e = sym (some_inj begun w e)
@@ -104,20 +110,27 @@ module _ {E : Type 0} (c : Symbols E) (laws : RingLaws c.ring c.held) where
     kept_row q true acc rest = refl
     kept_row q false acc rest = append_assoc acc (row q ∷ []) rest
 
-    rows_below : (qs : List ℕ) (acc rows : List (List ℕ × E))
-        → steps_over (row_step c strands) (filter (λ l. not (is_nought c strands l.vector)) (map (outcome c strands k v) qs)) acc ≡ Some rows
-        → rows ≡ acc ++ filter keeps (map row qs)
+    -- the live word of a charge
+    abbrev outcome : ℕ → Live (State E)
+    outcome q = record { word = q ∷ []; state = (strands, projected c strands k q v) }
+
+    -- the live words of charges
+    abbrev outcomes : List ℕ → List (Live (State E))
+    outcomes qs = outcomes_of 0 (0 ∷ []) (filter (is_part c) (map (part_of c k (strands, v)) qs))
+
+    rows_below : (qs : List ℕ) (acc rows : List (List ℕ × E)) → steps_over (row_step c) (outcomes qs) acc ≡ Some rows → rows ≡ acc ++ filter keeps (map row qs)
     rows_below [] acc rows e = sym (some_inj acc rows e) ∙ sym (append-nil acc)
     rows_below (q ∷ qs) acc rows e = pick (is_nought c strands (projected c strands k q v)) refl e (rows_below qs)
       where
-        pick : (z : Bool) → is_nought c strands (projected c strands k q v) ≡ z → steps_over (row_step c strands) (if not z then outcome c strands k v q ∷ filter (λ l. not (is_nought c strands l.vector)) (map (outcome c strands k v) qs) else filter (λ l. not (is_nought c strands l.vector)) (map (outcome c strands k v) qs)) acc ≡ Some rows
-            → ((acc' rows' : List (List ℕ × E)) → steps_over (row_step c strands) (filter (λ l. not (is_nought c strands l.vector)) (map (outcome c strands k v) qs)) acc' ≡ Some rows' → rows' ≡ acc' ++ filter keeps (map row qs))
+        pick : (z : Bool) → is_nought c strands (projected c strands k q v) ≡ z
+            → steps_over (row_step c) (outcomes_of 0 (0 ∷ []) (if not z then part_of c k (strands, v) q ∷ filter (is_part c) (map (part_of c k (strands, v)) qs) else filter (is_part c) (map (part_of c k (strands, v)) qs))) acc ≡ Some rows
+            → ((acc' rows' : List (List ℕ × E)) → steps_over (row_step c) (outcomes qs) acc' ≡ Some rows' → rows' ≡ acc' ++ filter keeps (map row qs))
             → rows ≡ acc ++ (if keeps (row q) then row q ∷ filter keeps (map row qs) else filter keeps (map row qs))
         pick true nought h below =
             below acc rows h
             ∙ ap (λ b. acc ++ (if not b then row q ∷ filter keeps (map row qs) else filter keeps (map row qs))) (sym (weight_nought strands (projected c strands k q v) (projected_is q) nought))
         pick false some h below =
-            let first = bind_some (row_step c strands (outcome c strands k v q) acc) (λ (n : List (List ℕ × E)). steps_over (row_step c strands) (filter (λ l. not (is_nought c strands l.vector)) (map (outcome c strands k v) qs)) n) rows h in
+            let first = bind_some (row_step c (outcome q) acc) (λ (n : List (List ℕ × E)). steps_over (row_step c) (outcomes qs) n) rows h in
             let inner = bind_some (weight_at c strands (projected c strands k q v)) (λ (w : E). Some (if c.held.is_zero w then acc else acc ++ (q ∷ [], w) ∷ [])) first.0 first.1 in
             let is : inner.0 ≡ inner_weight c strands (projected c strands k q v) = weight_value strands (projected c strands k q v) (projected_is q) inner.0 inner.1 in
             let made : first.0 ≡ (if c.held.is_zero (row q).1 then acc else acc ++ row q ∷ []) =
@@ -135,34 +148,51 @@ module _ {E : Type 0} (c : Symbols E) (laws : RingLaws c.ring c.held) where
         ap (λ ws. filter keeps (map (λ word. (word, inner_word_weight c strands v (letters 0 (Measure k ∷ [])) word)) ws)) (flat_map_single (λ (q : ℕ). q ∷ []) (labels c.count))
         ∙ ap (filter keeps) (map_map (λ (word : List ℕ). (word, inner_word_weight c strands v (letters 0 (Measure k ∷ [])) word)) (λ (q : ℕ). q ∷ []) (labels c.count))
 
-  at_turn_ok : {A : Type 0} (turn : ℕ) (o : Option A) (x : A) → at_turn turn o ≡ Ok x → o ≡ Some x
-  at_turn_ok turn None x e = absurd (cc)
-  at_turn_ok turn (Some y) x e = cc
+  fit_ok : {A : Type 0} (turn : ℕ) (o : Option A) (x : A) → fitting turn o ≡ Ok x → o ≡ Some x
+  fit_ok turn None x e = absurd (cc)
+  fit_ok turn (Some y) x e = cc
+
+  -- the one live word before the measurement
+  abbrev one_live : List ℕ → Vector E → List (Live (State E))
+  one_live strands v = record { word = 0 ∷ []; state = (strands, v) } ∷ []
+
+  -- after an exchange there is the word with its braid
+  exchanged : (strands : List ℕ) (k : ℕ) (sign : Sign) (v : Vector E) (mid : List (Live (State E))) (b : Bool)
+      → both (live_after (record { word = 0 ∷ []; state = (strands, v) }) (if b then Some (swapped strands k, braided c strands sign k v) else None)) (Some []) ≡ Some mid
+      → mid ≡ one_live (swapped strands k) (braided c strands sign k v)
+  exchanged strands k sign v mid true e = sym (some_same (one_live (swapped strands k) (braided c strands sign k v)) mid e)
+  exchanged strands k sign v mid false e = absurd (cc)
+
+  -- after the measurement there are the words of its charges
+  measured : (strands : List ℕ) (k : ℕ) (v : Vector E) (mid : List (Live (State E))) (b : Bool)
+      → joined (split_by 0 (0 ∷ []) (if b then Some (filter (is_part c) (map (part_of c k (strands, v)) (labels c.count))) else None)) (Some []) ≡ Some mid
+      → mid ≡ outcomes strands k v (labels c.count)
+  measured strands k v mid true e = sym (some_same (outcomes strands k v (labels c.count) ++ []) mid e) ∙ append-nil (outcomes strands k v (labels c.count))
+  measured strands k v mid false e = absurd (cc)
 
   -- what is left of a run gives the rows of what is left
-  pub run_value : (n : ℕ) (cs : List Command) (turn : ℕ) (strands : List ℕ) (v : Vector E) (rows : List (List ℕ × E)) → is_measured_braid n cs ≡ true
-      → rest_of c turn cs strands (one_word v) ≡ Ok rows → rows ≡ inner_rows_from c strands v cs
-  run_value n [] turn strands v rows form e = absurd (cc)
-  run_value n (Raise k ∷ cs) turn strands v rows form e = absurd (cc)
-  run_value n (Measure k ∷ x ∷ cs) turn strands v rows form e = absurd (cc)
-  run_value n (Measure k ∷ []) turn strands v rows form e = pick (all_fit c strands k turn v) refl
-    where
-      pick : (b : Bool) → all_fit c strands k turn v ≡ b → rows ≡ inner_rows_from c strands v (Measure k ∷ [])
-      pick true fits =
-          let weigh : rows_at c strands (outcomes_at c strands k (record { word = []; vector = v })) ≡ Some rows =
-          at_turn_ok (turn + 1) (rows_at c strands (outcomes_at c strands k (record { word = []; vector = v }))) rows
-          (sym (measured c strands k turn v (outcomes_at c strands k (record { word = []; vector = v })) fits refl) ∙ e) in
-          rows_below strands k v (labels c.count) [] rows weigh ∙ sym (measured_rows strands k v)
-      pick false fails = absurd (cc (sym e ∙ measured_fails c strands k turn v fails))
-  run_value n (Braid k sign ∷ cs) turn strands v rows form e =
-      pick (braided_fits c strands sign k v) refl
-      (run_value n cs (turn + 1) (swapped strands k) (braided c strands sign k v) rows (and_true (is_gap n k) (is_measured_braid n cs) form).1)
-    where
-      pick : (b : Bool) → braided_fits c strands sign k v ≡ b
-          → (rest_of c (turn + 1) cs (swapped strands k) (one_word (braided c strands sign k v)) ≡ Ok rows → rows ≡ inner_rows_from c (swapped strands k) (braided c strands sign k v) cs)
-          → rows ≡ inner_rows_from c strands v (Braid k sign ∷ cs)
-      pick true fits rest = rest (sym (braid_one c strands k turn v sign cs (swapped strands k) (braided c strands sign k v) fits refl refl) ∙ e)
-      pick false fails rest = absurd (cc (sym e ∙ braid_fails c strands k turn v sign cs fails))
+  run_value : (n : ℕ) (cs : List Command) (turn : ℕ) (strands : List ℕ) (v : Vector E) (ends : List (Live (State E))) (rows : List (List ℕ × E)) → is_measured_braid n cs ≡ true
+      → run_of (comb_told c n) turn (letters 0 cs) (one_live strands v) ≡ Ok ends → rows_at c ends ≡ Some rows → rows ≡ inner_rows_from c strands v cs
+  run_value n [] turn strands v ends rows form e w = absurd (cc)
+  run_value n (Raise k ∷ cs) turn strands v ends rows form e w = absurd (cc)
+  run_value n (Measure k ∷ x ∷ cs) turn strands v ends rows form e w = absurd (cc)
+  run_value n (Measure k ∷ []) turn strands v ends rows form e w =
+      let step = ok_first (turn_of (comb_told c n) turn (Charge k 0) (one_live strands v)) (run_of (comb_told c n) (turn + 1) []) ends e in
+      let mid = measured strands k v step.0 (all_fit c k (strands, v)) (fitted (comb_told c n) turn step.0 _ step.1) in
+      let same : ends ≡ outcomes strands k v (labels c.count) = sym (ok_same _ step.0 ends refl step.2) ∙ mid in
+      rows_below strands k v (labels c.count) [] rows (ap (rows_at c) (sym same) ∙ w) ∙ sym (measured_rows strands k v)
+  run_value n (Braid k sign ∷ cs) turn strands v ends rows form e w =
+      let step = ok_first (turn_of (comb_told c n) turn (Crossing k sign) (one_live strands v)) (run_of (comb_told c n) (turn + 1) (letters 0 cs)) ends e in
+      let mid = exchanged strands k sign v step.0 (braided_fits c strands sign k v) (step_of_ok (comb_told c n) turn None (Exchange k sign) (one_live strands v) step.0 step.1) in
+      run_value n cs (turn + 1) (swapped strands k) (braided c strands sign k v) ends rows (and_true (is_gap n k) (is_measured_braid n cs) form).1
+      (ap (run_of (comb_told c n) (turn + 1) (letters 0 cs)) (sym mid) ∙ step.2) w
+
+  measured_once : (n : ℕ) (cs : List Command) → is_measured_braid n cs ≡ true → measurements cs ≡ 1
+  measured_once n [] h = absurd (cc)
+  measured_once n (Braid k sign ∷ cs) h = measured_once n cs (and_true (is_gap n k) (is_measured_braid n cs) h).1
+  measured_once n (Raise k ∷ cs) h = absurd (cc)
+  measured_once n (Measure k ∷ []) h = refl
+  measured_once n (Measure k ∷ x ∷ cs) h = absurd (cc)
 
   own_is : (tree : Labelled) (x : Path) → IsTrue (c.ring.member (own_vector c.ring tree x))
   own_is tree x = pick (bytes_eq (own_path tree) x)
@@ -171,19 +201,20 @@ module _ {E : Type 0} (c : Symbols E) (laws : RingLaws c.ring c.held) where
       pick true = laws.one_is
       pick false = laws.zero_is
 
-  after_ok : {A B : Type 0} (r : Result A ℕ) (f : A → Result B ℕ) (y : B) → (r >>> f) ≡ Ok y → (x : A) × (r ≡ Ok x) × (f x ≡ Ok y)
-  after_ok (Err turn) f y e = absurd (cc)
-  after_ok (Ok x) f y e = (x, refl, e)
-
   -- what a comb program's evaluation gives is its total and its rows
-  pub evaluation_value : (tree : Labelled) (n : ℕ) (cs : List Command) (o : Outcomes E) → is_measured_braid n cs ≡ true → evaluation_of c tree cs ≡ Ok o → o ≡ inner_outcomes_of c tree cs
-  evaluation_value tree n cs o form e =
+  pub evaluation_value : (tree : Labelled) (cs : List Command) (o : Outcomes E) → is_measured_braid (size tree) cs ≡ true → evaluation_of c tree cs ≡ Ok o → o ≡ inner_outcomes_of c tree cs
+  evaluation_value tree cs o form e =
+      let n = size tree in
       let start = own_vector c.ring tree in
-      let first = after_ok (at_turn 0 (weight_at c (leaves tree) start)) (λ (sum : E). rest_of c 1 cs (leaves tree) (one_word start) >>> λ rows. Ok (record { total = sum; rows = rows })) o e in
-      let second = after_ok (rest_of c 1 cs (leaves tree) (one_word start)) (λ (rows : List (List ℕ × E)). Ok (record { total = first.0; rows = rows })) o first.2 in
-      let sum : first.0 ≡ inner_weight c (leaves tree) start = weight_value (leaves tree) start (own_is tree) first.0 (at_turn_ok 0 (weight_at c (leaves tree) start) first.0 first.1) in
-      let rows : second.0 ≡ inner_rows_from c (leaves tree) start cs = run_value n cs 1 (leaves tree) start second.0 form second.1 in
+      let begun = start_word (measurements cs) (leaves tree, start) in
+      let first = ok_first (fitting 0 (weight_at c (leaves tree) start)) (λ (sum : E). rest_of c n 1 (letters 0 cs) begun >>> λ rows. Ok (record { total = sum; rows = rows })) o e in
+      let second = ok_first (rest_of c n 1 (letters 0 cs) begun) (λ (rows : List (List ℕ × E)). Ok (record { total = first.0; rows = rows })) o first.2 in
+      let third = ok_first (run_of (comb_told c n) 1 (letters 0 cs) begun) (λ (ends : List (Live (State E))). fitting (1 + length (letters 0 cs)) (rows_at c ends)) second.0 second.1 in
+      let sum : first.0 ≡ inner_weight c (leaves tree) start = weight_value (leaves tree) start (own_is tree) first.0 (fit_ok 0 (weight_at c (leaves tree) start) first.0 first.1) in
+      let one : begun ≡ one_live (leaves tree) start = ap (λ m. start_word m (leaves tree, start)) (measured_once n cs form) in
+      let rows : second.0 ≡ inner_rows_from c (leaves tree) start cs =
+      run_value n cs 1 (leaves tree) start third.0 second.0 form (ap (run_of (comb_told c n) 1 (letters 0 cs)) (sym one) ∙ third.1) (fit_ok (1 + length (letters 0 cs)) (rows_at c third.0) second.0 third.2) in
       sym (ok_inj (record { total = first.0; rows = second.0 }) o second.2) ∙ (λ j. record { total = sum j; rows = rows j })
     where
-      ok_inj : (x y : Outcomes E) → (let r : Result (Outcomes E) ℕ = Ok x in r ≡ Ok y) → x ≡ y
+      ok_inj : (x y : Outcomes E) → (let r : Result (Outcomes E) RunFault = Ok x in r ≡ Ok y) → x ≡ y
       ok_inj x y e = cc

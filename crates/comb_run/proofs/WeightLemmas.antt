@@ -1,5 +1,5 @@
 -- The weight of a vector is evaluated over its entries.
-use Rattle.std.proofs.Common.{◌≡◌, ℕ, Bool, true, false, ◌||◌, not, List, [], ◌∷◌, map, Option, Some, None, unwrap_or, refl, ap, sym, ◌∙◌}
+use Rattle.std.proofs.Common.{◌≡◌, ℕ, Bool, true, false, ◌||◌, not, List, [], ◌∷◌, map, length, Option, Some, None, unwrap_or, refl, ap, sym, ◌∙◌}
 use Rattle.std.specs.Prelude.{if◌then◌else◌, ◌&&◌, is_some, IsTrue}
 use Rattle.std.specs.Str.{bytes_eq}
 use Rattle.std.specs.List.{All, AllByRecursion, filter, list_any}
@@ -11,13 +11,14 @@ use Rattle.std.specs.declared.cmp.Ordering.TheVariants.{Less}
 use Rattle.std.specs.Cmp.Lexicographic.{slice_cmp}
 use Rattle.std.proofs.lemmas.Slice.Eq.{bytes_eq-Decides}
 use Rattle.std.proofs.lemmas.List.Elements.{recursion_from_All}
+use Rattle.std.proofs.lemmas.List.{length-map}
 use Rattle.arrayvec.specs.ArrayVec.{ArrayVec}
 use Rattle.ring_laws.specs.Ring.{RingLaws}
 use Rattle.ring_laws.specs.Stated.{◌>>=◌, steps_over}
 use Rattle.symbol_table.specs.Symbols.{Symbols}
 use Rattle.comb_laws.specs.Paths.{Path, Vector, paths, is_path}
-use Rattle.comb_run.specs.Evaluated.{path_weight_at, weight_term_at, weight_step, weight_at}
-use Rattle.comb_run.specs.Entries.{path_of, paths_of, entry_at, vector_of, among, AreEntries}
+use Rattle.comb_run.specs.Evaluated.{path_weight_at, weight_term_at, weight_step, weight_at, amplitudes}
+use Rattle.comb_run.specs.Entries.{path_of, paths_of, entry_at, vector_of, among, AreEntries, AreOrdered}
 use Rattle.comb_run.proofs.EntryLemmas.{lookup_is}
 use Rattle.comb_laws.proofs.PathFacts.{same_path}
 use Rattle.comb_run.proofs.PathLemmas.{among_paths}
@@ -158,7 +159,7 @@ sorted_items strands (x ∷ xs) s = (all_less strands x xs s.0, sorted_items str
 
 -- what a map says of its entries
 pub record IsMap {E : Type 0} (es : List (ArrayVec ℕ × E)) : Type 0 where
-  pub ordered : IsStrictlySortedBy (λ (a b : ArrayVec ℕ). slice_cmp nat_cmp a.items b.items) (keys_of es)
+  pub ordered : AreOrdered es
   pub found : All (λ e. lookup (is_at (λ (k : ArrayVec ℕ). slice_cmp nat_cmp e.0.items k.items)) es ≡ Some e.1) es
 
 module _ {E : Type 0} (c : Symbols E) (laws : RingLaws c.ring c.held) (strands : List ℕ) (es : List (ArrayVec ℕ × E)) (are : AreEntries c strands es) (map_of : IsMap es) where
@@ -168,6 +169,13 @@ module _ {E : Type 0} (c : Symbols E) (laws : RingLaws c.ring c.held) (strands :
   pub begun_entries : (left : List (ArrayVec ℕ × E)) → left ≡ es → AllByRecursion (IsEntry c strands) left
   begun_entries left same =
       rw same (entries_are c strands es are es (recursion_from_All (λ (e : ArrayVec ℕ × E). lookup (is_at (λ (k : ArrayVec ℕ). slice_cmp nat_cmp e.0.items k.items)) es ≡ Some e.1) es map_of.found))
+
+-- there are as many entries as paths whose value isn't zero
+pub entries_count : {E : Type 0} (c : Symbols E) → RingLaws c.ring c.held → (strands : List ℕ) (es : List (ArrayVec ℕ × E)) → AreEntries c strands es → AreOrdered es
+    → length es ≡ amplitudes c strands (vector_of c.ring strands es)
+entries_count {E} c laws strands es are ordered =
+    sym (ap length (keys_are c laws strands es are (sorted_items strands (keys_of es) ordered))
+    ∙ (length-map (keys_of es) (λ key. path_of strands key.items) ∙ length-map es (λ e. e.0)))
 
 module _ {A B : Type 0} (step : B → A → Option A) where
   -- one step of a list that is told by its first item and the rest

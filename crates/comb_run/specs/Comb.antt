@@ -4,7 +4,7 @@ use Rattle.std.specs.List.{flat_map}
 use Rattle.program_text.specs.Program.{Program}
 use Rattle.program_text.specs.declared.plan.Command.{Command}
 use Rattle.comb_laws.specs.Plans.{Outcomes}
-use Rattle.comb_run.specs.Lives.{rows_of}
+use Rattle.comb_run.specs.States.{rows_of}
 use Rattle.comb_run.specs.declared.rows.Rows.{Rows}
 
 -- the commands of all sites, in the order of the text

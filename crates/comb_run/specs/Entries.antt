@@ -2,6 +2,9 @@
 use Rattle.std.specs.Prelude.{◌≡◌, not, is_some, slice_index, ◌++◌, ℕ, Bool, List, [], ◌∷◌, map, Option, Some, None, if◌then◌else◌, unwrap_or, true, false, IsTrue, slice_set}
 use Rattle.std.specs.Str.{bytes_eq}
 use Rattle.std.specs.List.{list_any, list_all, range_with_len}
+use Rattle.std.specs.List.Sorted.{IsStrictlySortedBy}
+use Rattle.std.specs.Ordering.{nat_cmp}
+use Rattle.std.specs.Cmp.Lexicographic.{slice_cmp}
 use Rattle.std.specs.Map.{keys_of}
 use Rattle.arrayvec.specs.ArrayVec.{ArrayVec}
 use Rattle.ring_laws.specs.Ring.{Ring, Held}
@@ -65,6 +68,10 @@ items_of ps = map (λ p. p.items) ps
 -- what is there once these paths are done, of the vector v
 abbrev pub gathered : {E : Type 0} → Held E → Vector E → List Path → Path → Option E
 gathered h v done x = if among x done then kept_of h (v x) else None
+
+-- the keys are in the order of lists of labels, and none stands twice
+abbrev pub AreOrdered : {E : Type 0} → List (ArrayVec ℕ × E) → Type 0
+AreOrdered es = IsStrictlySortedBy (λ (a b : ArrayVec ℕ). slice_cmp nat_cmp a.items b.items) (keys_of es)
 
 -- every value is of the ring
 abbrev pub AreMembers : {E : Type 0} → Ring E → List ℕ → List (ArrayVec ℕ × E) → Type 0

@@ -1,17 +1,23 @@
--- The stated evaluation on combs: which products, sums and conjugates arise, and the turn of the first that doesn't fit.
-use Rattle.std.specs.Prelude.{ℕ, ◌+◌, ◌-◌, Bool, ◌&&◌, not, Option, Some, None, is_some, if◌then◌else◌, slice_index, slice_set, List, [], ◌∷◌, ◌++◌, map, length, Result, Ok, Err}
-use Rattle.std.specs.List.{flat_map, filter, list_all}
+-- The stated evaluation on combs: which products, sums and conjugates arise, and the first stop.
+use Rattle.std.specs.Prelude.{ℕ, ◌+◌, ◌-◌, Bool, ◌&&◌, not, nat_lt, Option, Some, None, is_some, if◌then◌else◌, slice_index, slice_set, List, [], ◌∷◌, ◌++◌, map, length, Result, Ok, Err}
+use Rattle.std.specs.List.{filter, list_all}
 use Rattle.ring_laws.specs.Ring.{Ring}
 use Rattle.ring_laws.specs.Stated.{◌>>=◌, product_at, sum_at, conjugate_at, add_product_at, add_product3_at, steps, steps_over}
 use Rattle.symbol_table.specs.Symbols.{Symbols, f_admissible}
-use Rattle.tree_shapes.specs.Labelled.{Labelled, leaves}
+use Rattle.tree_shapes.specs.Labelled.{Labelled, leaves, size}
+use Rattle.program_text.specs.Letters.{letters, measurements}
+use Rattle.program_text.specs.declared.plan.Sign.{Sign}
+use Rattle.program_text.specs.declared.plan.Command.{Command}
+use Rattle.program_text.specs.declared.letter.Letter.{Letter}
+use Rattle.word_runs.specs.Told.{Told}
+use Rattle.word_runs.specs.Runs.{Live, ◌>>>◌, fitting, run_of, start_word}
+use Rattle.word_runs.specs.declared.engine.Step.{Step}
+use Rattle.word_runs.specs.declared.engine.Step.TheVariants.{Raise, Exchange}
+use Rattle.word_runs.specs.declared.fault.RunFault.{RunFault}
 use Rattle.comb_laws.specs.Paths.{Path, Vector, is_path, paths, labels}
 use Rattle.comb_laws.specs.Operators.{strand, swapped, exchange_by, braided, projected}
 use Rattle.comb_laws.specs.Amplitudes.{own_vector}
 use Rattle.comb_laws.specs.Plans.{Outcomes}
-use Rattle.program_text.specs.declared.plan.Sign.{Sign}
-use Rattle.program_text.specs.declared.plan.Command.{Command}
-use Rattle.program_text.specs.declared.plan.Command.TheVariants.{Braid, Raise, Measure}
 
 -- A kernel that is evaluated: none where an item of it doesn't fit.
 abbrev pub KernelAt : Type 0 → Type 0
@@ -96,72 +102,72 @@ weight_step c strands v x sum =
 abbrev pub weight_at : {E : Type 0} → Symbols E → List ℕ → Vector E → Option E
 weight_at c strands v = steps_over (weight_step c strands v) (paths c strands) c.ring.zero
 
--- A live word: the outcomes so far, and its vector.
-pub record Live (E : Type 0) : Type 0 where
-  pub word : List ℕ
-  pub vector : Vector E
-
 -- whether a vector is zero at every path
 abbrev pub is_nought : {E : Type 0} → Symbols E → List ℕ → Vector E → Bool
 is_nought c strands v = list_all (λ x. c.held.is_zero (v x)) (paths c strands)
 
--- the words that a measurement at gap k makes of a live word: one for each charge whose vector isn't zero
-abbrev pub outcomes_at : {E : Type 0} → Symbols E → List ℕ → ℕ → Live E → List (Live E)
-outcomes_at c strands k live =
-    filter (λ l. not (is_nought c strands l.vector))
-    (map (λ q. record { word = live.word ++ q ∷ []; vector = projected c strands k q live.vector }) (labels c.count))
+-- at how many paths a vector isn't zero
+abbrev pub amplitudes : {E : Type 0} → Symbols E → List ℕ → Vector E → ℕ
+amplitudes c strands v = length (filter (λ x. not (c.held.is_zero (v x))) (paths c strands))
 
--- The strands and the live words after the commands, whose first has this turn; or the turn of the first item that
--- doesn't fit.
-abbrev pub run_from : {E : Type 0} → Symbols E → ℕ → List Command → List ℕ → List (Live E) → Result (List ℕ × List (Live E)) ℕ
-run_from c turn [] strands live = Ok (strands, live)
-run_from c turn (Braid k sign ∷ cs) strands live =
-    if list_all (λ l. braided_fits c strands sign k l.vector) live
-    then run_from c (turn + 1) cs (swapped strands k)
-    (map (λ l. record { word = l.word; vector = braided c strands sign k l.vector }) live)
-    else Err turn
-run_from c turn (Raise k ∷ cs) strands live = run_from c (turn + 1) cs strands live
-run_from c turn (Measure k ∷ cs) strands live =
-    if list_all (λ l. list_all (λ q. projected_fits c strands k q l.vector) (labels c.count)) live
-    then run_from c (turn + 1) cs strands (flat_map (outcomes_at c strands k) live)
-    else Err turn
+-- The state of a word: the strands, and a vector over them.
+abbrev pub State : Type 0 → Type 0
+State E = List ℕ × Vector E
+
+-- what a step makes of a state; a raise changes nothing
+abbrev pub stepped_at : {E : Type 0} → Symbols E → Step → State E → Option (State E)
+stepped_at c (Raise k) s = Some s
+stepped_at c (Exchange k sign) s =
+    if braided_fits c s.0 sign k s.1 then Some (swapped s.0 k, braided c s.0 sign k s.1) else None
+
+-- the projection of a state at gap k on a charge
+abbrev pub part_of : {E : Type 0} → Symbols E → ℕ → State E → ℕ → ℕ × State E
+part_of c k s q = (q, (s.0, projected c s.0 k q s.1))
+
+abbrev pub is_part : {E : Type 0} → Symbols E → ℕ × State E → Bool
+is_part c part = not (is_nought c part.1.0 part.1.1)
+
+-- the parts of a state at gap k: in label order, the projections that aren't zero, if those on all charges fit
+abbrev pub parts_at : {E : Type 0} → Symbols E → ℕ → State E → Option (List (ℕ × State E))
+parts_at c k s =
+    if list_all (λ q. projected_fits c s.0 k q s.1) (labels c.count)
+    then Some (filter (is_part c) (map (part_of c k s) (labels c.count)))
+    else None
+
+-- What the engine on combs of n strands tells: every gap is a pair, and a state has no shape.
+abbrev pub comb_told : {E : Type 0} → Symbols E → ℕ → Told (State E) (Unit {0})
+comb_told c n = record {
+  strands = n;
+  shape = λ s. tt;
+  turned = λ k t. t;
+  path = λ k t. [];
+  is_pair = λ k t. nat_lt 0 k && nat_lt k n;
+  stepped = stepped_at c;
+  parts = parts_at c;
+  entries = λ s. amplitudes c s.0 s.1;
+}
 
 -- one more live word: its row, if its weight isn't zero
-abbrev pub row_step : {E : Type 0} → Symbols E → List ℕ → Live E → List (List ℕ × E) → Option (List (List ℕ × E))
-row_step c strands live rows = do
-  weight ← weight_at c strands live.vector
+abbrev pub row_step : {E : Type 0} → Symbols E → Live (State E) → List (List ℕ × E) → Option (List (List ℕ × E))
+row_step c live rows = do
+  weight ← weight_at c live.state.0 live.state.1
   Some (if c.held.is_zero weight then rows else rows ++ (live.word, weight) ∷ [])
 
 -- the live words whose weight isn't zero, each with its weight, in their order; none where an item of one doesn't fit
-abbrev pub rows_at : {E : Type 0} → Symbols E → List ℕ → List (Live E) → Option (List (List ℕ × E))
-rows_at c strands live = steps_over (row_step c strands) live []
+abbrev pub rows_at : {E : Type 0} → Symbols E → List (Live (State E)) → Option (List (List ℕ × E))
+rows_at c live = steps_over (row_step c) live []
 
--- a value, or the turn at which its evaluation stops
-abbrev pub at_turn : {A : Type 0} → ℕ → Option A → Result A ℕ
-at_turn turn (Some value) = Ok value
-at_turn turn None = Err turn
-
-infixl 10 ◌>>>◌
--- what follows a value, and the turn of a stop
-abbrev pub ◌>>>◌ : {A B : Type 0} → Result A ℕ → (A → Result B ℕ) → Result B ℕ
-(Ok x) >>> f = f x
-(Err turn) >>> f = Err turn
-
--- The rows that follow from live words, where the first of the commands has this turn; the turn after the last command
+-- The rows that follow from live words, where the first of the letters has this turn; the turn after the last one
 -- evaluates the weights.
-abbrev pub rest_of : {E : Type 0} → Symbols E → ℕ → List Command → List ℕ → List (Live E) → Result (List (List ℕ × E)) ℕ
-rest_of c turn commands strands live =
-    run_from c turn commands strands live >>> λ end. at_turn (turn + length commands) (rows_at c end.0 end.1)
+abbrev pub rest_of : {E : Type 0} → Symbols E → ℕ → ℕ → List Letter → List (Live (State E)) → Result (List (List ℕ × E)) RunFault
+rest_of c n turn ls live =
+    run_of (comb_told c n) turn ls live >>> λ ends. fitting (turn + length ls) (rows_at c ends)
 
--- one live word, without outcomes
-abbrev pub one_word : {E : Type 0} → Vector E → List (Live E)
-one_word v = record { word = []; vector = v } ∷ []
-
--- The total and the rows of a left-combed start and its commands, or the turn of the first item that doesn't fit: turn 0
--- evaluates the total, each command is a turn from 1 on. The start has the amplitude one at the tree's own path.
-abbrev pub evaluation_of : {E : Type 0} → Symbols E → Labelled → List Command → Result (Outcomes E) ℕ
+-- The total and the rows of a left-combed start and its commands, or the first stop: turn 0 evaluates the total, each
+-- command is a turn from 1 on. The start has the amplitude one at the tree's own path.
+abbrev pub evaluation_of : {E : Type 0} → Symbols E → Labelled → List Command → Result (Outcomes E) RunFault
 evaluation_of c tree commands =
     let start = own_vector c.ring tree in
-    at_turn 0 (weight_at c (leaves tree) start) >>> λ sum.
-    rest_of c 1 commands (leaves tree) (one_word start) >>> λ rows.
+    fitting 0 (weight_at c (leaves tree) start) >>> λ sum.
+    rest_of c (size tree) 1 (letters 0 commands) (start_word (measurements commands) (leaves tree, start)) >>> λ rows.
     Ok (record { total = sum; rows = rows })

@@ -2,5 +2,6 @@ pub mod Comb
 pub mod Entries
 pub mod Evaluated
 pub mod Kept
-pub mod Lives
 pub mod Operations
+pub mod Shapes
+pub mod States

@@ -16,7 +16,6 @@ ghost use Rattle.comb_run.specs.Kept.{AreKept};
 ghost use Rattle.comb_laws.specs.Operators.{kernel_of};
 ghost use Rattle.symbol_table.specs.Draft.{IsMember};
 
-use crate::fault::StepFault;
 use crate::kernel::Place;
 use crate::kernels::Kernels;
 use crate::key::{Path, key_of};
@@ -25,6 +24,7 @@ use comb_laws::Operator;
 use ring_laws::{StarRing, add_product, is_zero};
 use std::alloc::{AllocError, Global};
 use symbol_table::Category;
+use word_runs::StepFault;
 
 /// An operator at a gap of these strands, and the strands that it leaves.
 #[derive(Clone, Copy, Drop)]

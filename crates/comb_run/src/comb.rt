@@ -3,26 +3,55 @@
 ghost use Rattle.std.specs.Prelude.{◌≡◌, ◌<◌, ◌≤◌, length, IfOk, true};
 ghost use Rattle.fusion_rules.specs.Fusion.{fuses};
 ghost use Rattle.symbol_table.specs.Category.{symbols};
-ghost use Rattle.symbol_table.specs.Category.{symbols};
 ghost use Rattle.tree_shapes.specs.Views.{labelled};
 ghost use Rattle.tree_shapes.specs.Labelled.{leaves, size};
 ghost use Rattle.program_text.specs.Program.{program_of};
 ghost use Rattle.program_text.specs.Form.{is_comb_program, is_comb_start, is_measured_braid};
 ghost use Rattle.comb_run.specs.Comb.{commands_of, outcomes_in};
 ghost use Rattle.comb_laws.specs.Plans.{outcomes_of};
-ghost use Rattle.comb_run.specs.Evaluated.{evaluation_of};
-ghost use Rattle.comb_run.specs.Lives.{Runs};
+ghost use Rattle.comb_run.specs.Evaluated.{evaluation_of, rest_of};
+ghost use Rattle.comb_run.specs.States.{state_of, rows_of, IsState};
+ghost use Rattle.program_text.specs.Letters.{letters, measurements};
+ghost use Rattle.program_text.specs.declared.form.TheConstants.{COMMAND_LIMIT};
+ghost use Rattle.word_runs.specs.Runs.{Runs, start_word};
 
 use crate::key::Strands;
-use crate::rows::{Rows, RunFault};
-use crate::run::run;
-use crate::start::{own_vector, push_leaves};
+use crate::engine::CombEngine;
+use crate::rows::{Row, Rows, rows_of_words};
+use crate::start::start_state;
+use crate::state::CombState;
 use comb_laws::laws::left_comb_start;
 use program_text::{Command, Plan};
-use ring_laws::{Overflow, StarRing};
+use ring_laws::StarRing;
 use std::alloc::Global;
 use symbol_table::Category;
 use tree_shapes::Tree;
+use word_runs::{RunFault, run_commands};
+
+/// The rows at the end of commands from a state.
+fn end_rows<R: StarRing>(
+    alloc: Global,
+    category: &Category<R>,
+    commands: &[Command],
+    state: CombState<R>,
+) -> Result<Vec<Row<R>>, RunFault>
+    requires form { is_measured_braid (length state.strands.items) commands.now ≡ true }
+    requires few { length commands.now ≤ COMMAND_LIMIT }
+    requires state { IsState (symbols R.StarRing category.now) (length state.strands.items) state }
+    ensures { let c = symbols R.StarRing category.now in
+        Runs (λ rows. rows_of rows.items) result
+        (rest_of c (length state.strands.items) 1 (letters 0 commands.now) (start_word (measurements commands.now) (state_of c.ring state))) }
+{
+    let engine = CombEngine {
+        category,
+        strands: state.strands.len() as u8,
+    };
+    let ends = run_commands(alloc, &engine, commands, state)?;
+    match rows_of_words(alloc, category, ends.as_slice()) {
+        Ok(rows) => Ok(rows),
+        Err(fault) => Err(fault.in_turn(commands.len() as u32 + 1)),
+    }
+}
 
 /// Runs commands from a left-combed tree.
 fn comb_rows<R: StarRing>(
@@ -33,21 +62,15 @@ fn comb_rows<R: StarRing>(
 ) -> Result<Rows<R>, RunFault>
     requires start { is_comb_start (fuses category.now.rules) category.now.rules.count (labelled tree.now) ≡ true }
     requires form { is_measured_braid (size (labelled tree.now)) commands.now ≡ true }
-    requires few { length commands.now ≤ 4096 }
+    requires few { length commands.now ≤ COMMAND_LIMIT }
     ensures { let c = symbols R.StarRing category.now in
         Runs outcomes_in result (evaluation_of c (labelled tree.now) commands.now) }
 {
-    // Tells that there are labels, and that the unit times a label is that label.
-    let _count = category.rules().count();
-    let mut strands = Strands::new();
-    push_leaves(tree, &mut strands);
-    let Ok(vector) = own_vector(alloc, category, tree) else {
-        return Err(RunFault::Memory);
-    };
-    let Ok(total) = vector.weight(category, strands.as_slice()) else {
+    let start = start_state(alloc, category, tree)?;
+    let Ok(total) = start.vector.weight(category, start.strands.as_slice()) else {
         return Err(RunFault::Overflow { turn: 0 });
     };
-    let list = run(alloc, category, commands, strands, vector)?;
+    let list = end_rows(alloc, category, commands, start)?;
     Ok(Rows { total, list })
 }
 

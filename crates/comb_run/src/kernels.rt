@@ -8,7 +8,6 @@ ghost use Rattle.symbol_table.specs.Draft.{IsMember};
 ghost use Rattle.comb_run.specs.Kept.{labels_of, kept_at, AreKept};
 ghost use Rattle.comb_run.specs.Operations.{kernel_at, charge_below, IsPlace};
 
-use crate::fault::StepFault;
 use crate::kernel::{Place, kernel};
 use arrayvec::ArrayVec;
 use comb_laws::Operator;
@@ -17,6 +16,7 @@ use std::alloc::{AllocError, Global};
 use std::collections::BTreeMap;
 use std::marker::Model;
 use symbol_table::Category;
+use word_runs::StepFault;
 
 /// The six labels of a place, in the order of its fields.
 type SixLabels = ArrayVec<u8, 6>;

@@ -66,3 +66,14 @@ fn begun(strands: &[u8]) -> Path
     }
     path
 }
+
+/// The same strands again.
+pub(crate) fn copied(strands: &Strands) -> Strands
+    ensures { result.items ≡ strands.now.items }
+{
+    let mut copy = Strands::new();
+    for s in strands.as_slice() {
+        copy.push(*s);
+    }
+    copy
+}

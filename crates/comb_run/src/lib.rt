@@ -5,22 +5,23 @@
 //! - *entries*: a comb vector by the keys of the paths whose value isn't zero (`specs/Entries.antt`).
 //! - *kept kernels*: the kernels of one operator by their six labels, each evaluated once (`specs/Kept.antt`).
 //! - *stated evaluation*: which products, sums and conjugates arise, in their order (`specs/Evaluated.antt`).
-//! - *live word*: the outcomes so far, and their vector (`specs/Evaluated.antt`, `specs/Lives.antt`).
+//! - *state*: the strands of a word, and its vector over them (`specs/States.antt`); runs of words over such states are
+//!   those of `word_runs`.
 //! - *comb run*: the total and the rows of a comb program in a category (`comb_run`).
 #![tactic(auto)]
 
 mod act;
 mod comb;
-mod fault;
+mod engine;
 mod kernel;
 mod kernels;
 mod key;
-mod live;
+mod parts;
 mod rows;
-mod run;
 mod start;
+mod state;
 mod vector;
 mod weigh;
 
 pub use comb::comb_run;
-pub use rows::{Row, Rows, RunFault};
+pub use rows::{Row, Rows};

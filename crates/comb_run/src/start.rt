@@ -2,15 +2,19 @@
 
 ghost use Rattle.std.specs.Prelude.{◌≡◌, ◌≤◌, ◌+◌, ◌++◌, List, length, IfOk, true};
 ghost use Rattle.symbol_table.specs.Category.{symbols};
-ghost use Rattle.tree_shapes.specs.Labelled.{leaves};
+ghost use Rattle.fusion_rules.specs.Fusion.{fuses};
+ghost use Rattle.tree_shapes.specs.Labelled.{leaves, size};
+ghost use Rattle.program_text.specs.Form.{is_comb_start};
 ghost use Rattle.tree_shapes.specs.Views.{labelled};
 ghost use Rattle.comb_laws.specs.Paths.{is_path};
 ghost use Rattle.comb_laws.specs.Amplitudes.{own_path, own_vector};
 ghost use Rattle.tree_shapes.specs.declared.limits.TheConstants.{STRAND_LIMIT};
 ghost use Rattle.comb_run.specs.Entries.{path_of, vector_of, AreEntries};
+ghost use Rattle.comb_run.specs.States.{state_of, IsState};
 ghost use Rattle.comb_run.specs.declared.key.TheConstants.{PATH_LIMIT};
 
 use crate::key::{Key, Strands};
+use crate::state::CombState;
 use crate::vector::CombVector;
 use ring_laws::StarRing;
 use std::alloc::{AllocError, Global};
@@ -18,7 +22,7 @@ use symbol_table::Category;
 use tree_shapes::Tree;
 
 /// Adds the labels of a tree's strands, from left to right.
-pub(crate) fn push_leaves(tree: &Tree, strands: &mut Strands)
+fn push_leaves(tree: &Tree, strands: &mut Strands)
     requires { length strands.old.items + length (leaves (labelled tree.now)) ≤ STRAND_LIMIT }
     ensures { strands.new.items ≡ strands.old.items ++ leaves (labelled tree.now) }
 {
@@ -32,7 +36,7 @@ pub(crate) fn push_leaves(tree: &Tree, strands: &mut Strands)
 }
 
 /// The key of a left-combed tree's own labels.
-pub(crate) fn own_key(tree: &Tree) -> Key
+fn own_key(tree: &Tree) -> Key
     requires { length (own_path (labelled tree.now)) ≤ PATH_LIMIT }
     ensures path { path_of (leaves (labelled tree.now)) result.items ≡ own_path (labelled tree.now) }
     ensures long { length result.items + 2 ≡ length (own_path (labelled tree.now)) }
@@ -48,7 +52,7 @@ pub(crate) fn own_key(tree: &Tree) -> Key
 }
 
 /// The vector that is one at a left-combed tree's own path, and zero elsewhere.
-pub(crate) fn own_vector<R: StarRing>(
+fn start_vector<R: StarRing>(
     alloc: Global,
     category: &Category<R>,
     tree: &Tree,
@@ -61,4 +65,23 @@ pub(crate) fn own_vector<R: StarRing>(
     let mut vector = CombVector::new(alloc);
     vector.put(own_key(tree), category.ring().one())?;
     Ok(vector)
+}
+
+/// The state in which a run begins: the strands of a left-combed tree, and its own vector.
+pub(crate) fn start_state<R: StarRing>(
+    alloc: Global,
+    category: &Category<R>,
+    tree: &Tree,
+) -> Result<CombState<R>, AllocError>
+    requires { is_comb_start (fuses category.now.rules) category.now.rules.count (labelled tree.now) ≡ true }
+    ensures state { IfOk result (λ s. IsState (symbols R.StarRing category.now) (size (labelled tree.now)) s) }
+    ensures value { let c = symbols R.StarRing category.now in
+        IfOk result (λ s. state_of c.ring s ≡ (leaves (labelled tree.now), own_vector c.ring (labelled tree.now))) }
+{
+    // Tells that there are labels, and that the unit times a label is that label.
+    let _count = category.rules().count();
+    let mut strands = Strands::new();
+    push_leaves(tree, &mut strands);
+    let vector = start_vector(alloc, category, tree)?;
+    Ok(CombState { strands, vector })
 }

@@ -4,7 +4,7 @@ ghost use Rattle.std.specs.Prelude.{◌≡◌, ◌↔◌, ◌<◌, ◌≤◌, �
 ghost use Rattle.std.specs.Str.{bytes_eq};
 ghost use Rattle.std.specs.Option.{option_copied};
 ghost use Rattle.std.specs.Map.{keys_of};
-ghost use Rattle.comb_run.specs.Entries.{path_of as spec_path_of, entry_at, vector_of, items_of, row_of, is_first, targets_of, AreMembers, AreEntries};
+ghost use Rattle.comb_run.specs.Entries.{path_of as spec_path_of, entry_at, vector_of, items_of, row_of, is_first, targets_of, AreMembers, AreEntries, AreOrdered};
 ghost use Rattle.ring_laws.specs.Stated.{Gives};
 ghost use Rattle.symbol_table.specs.Category.{symbols};
 ghost use Rattle.comb_run.specs.Evaluated.{weight_at};
@@ -74,6 +74,14 @@ impl<R: StarRing> CombVector<R> {
             Ok(_) => Ok(()),
             Err(e) => Err(AllocError::from(e)),
         }
+    }
+
+    /// How many paths have a value.
+    pub(crate) fn len(&self) -> usize
+        ensures count { result ≡ length self.now }
+        ensures ordered { AreOrdered self.now }
+    {
+        self.entries.len()
     }
 
     /// Whether no path has a value.

@@ -65,7 +65,7 @@ module _ {M T : Type 0} (e : Told M T) where
       by_words false true h = absurd (cc)
       by_words false false h = sym (ok_same _ live new refl h)
 
-  fitted : (turn : ℕ) (new : List (Live M)) (o : Option (List (Live M))) → (fitting turn o >>> limited e turn) ≡ Ok new → o ≡ Some new
+  pub fitted : (turn : ℕ) (new : List (Live M)) (o : Option (List (Live M))) → (fitting turn o >>> limited e turn) ≡ Ok new → o ≡ Some new
   fitted turn new None h = absurd (cc)
   fitted turn new (Some live) h = ap Some (sym (limited_ok turn live new h))
 

@@ -1,5 +1,7 @@
 //! Why a step or a run stops.
 
+ghost use Rattle.std.specs.Prelude.{◌≡◌};
+
 use ring_laws::Overflow;
 use std::alloc::AllocError;
 
@@ -25,6 +27,19 @@ pub enum RunFault {
     Wide { turn: u32, entries: u32 },
     /// Memory ran out.
     Memory,
+}
+
+impl StepFault {
+    /// What a step that stops in a turn says of the run.
+    pub fn in_turn(self, turn: u32) -> RunFault
+        ensures too_large { self ≡ StepFault.TooLarge → result ≡ RunFault.Overflow turn }
+        ensures no_room { self ≡ StepFault.NoRoom → result ≡ RunFault.Memory }
+    {
+        match self {
+            StepFault::TooLarge => RunFault::Overflow { turn },
+            StepFault::NoRoom => RunFault::Memory,
+        }
+    }
 }
 
 impl From<Overflow> for StepFault {

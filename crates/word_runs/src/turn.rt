@@ -5,11 +5,10 @@ ghost use Rattle.std.specs.List.{AllByRecursion};
 ghost use Rattle.word_runs.specs.Told.{IsGap, IsAllowed};
 ghost use Rattle.word_runs.specs.Runs.{width, counted, limited, step_of, split_of, settled, path_of, turn_of, ◌>>>◌, Runs, Leaves};
 ghost use Rattle.word_runs.specs.Lives.{lives_of, test_of, AreOf, IsTestBelow, AreAlike, IsFit};
-ghost use Rattle.word_runs.specs.declared.fault.RunFault.TheVariants.{Overflow, Memory};
 ghost use Rattle.word_runs.specs.declared.engine.Step.TheVariants.{Raise, Exchange};
 
 use crate::engine::{Engine, Step};
-use crate::fault::{RunFault, StepFault};
+use crate::fault::RunFault;
 use crate::limits::{AMPLITUDE_LIMIT, GREATEST_COUNT, WORD_LIMIT};
 use crate::live::{LiveWord, OutcomeTest, split_all, step_all};
 use program_text::{Letter, Sign};
@@ -59,17 +58,6 @@ fn try_limits<E: Engine>(
     Ok(())
 }
 
-/// What a step that stops in a turn says of the run.
-pub(crate) fn stopped(fault: StepFault, turn: u32) -> RunFault
-    ensures too_large { fault ≡ StepFault.TooLarge → result ≡ Overflow turn }
-    ensures no_room { fault ≡ StepFault.NoRoom → result ≡ Memory }
-{
-    match fault {
-        StepFault::TooLarge => RunFault::Overflow { turn },
-        StepFault::NoRoom => RunFault::Memory,
-    }
-}
-
 /// One step of a turn on all live words: first whether its items fit, then the limits.
 fn step_within<E: Engine>(
     alloc: Global,
@@ -87,7 +75,7 @@ fn step_within<E: Engine>(
 {
     match step_all(alloc, engine, live, test, step) {
         Ok(()) => try_limits(engine, live, turn),
-        Err(fault) => Err(stopped(fault, turn)),
+        Err(fault) => Err(fault.in_turn(turn)),
     }
 }
 
@@ -192,7 +180,7 @@ fn split_within<E: Engine>(
             try_limits(engine, next.as_slice(), turn)?;
             Ok(next)
         }
-        Err(fault) => Err(stopped(fault, turn)),
+        Err(fault) => Err(fault.in_turn(turn)),
     }
 }
 

@@ -3,11 +3,11 @@ use Rattle.std.proofs.lemmas.Result.{err_from_is_err_and}
 use Rattle.fusion_rules.specs.Fusion.{Fusion}
 use Rattle.ring_laws.proofs.StatedLemmas.{steps_one, steps_none}
 use Rattle.symbol_table.specs.Category.{symbols}
-use Rattle.comb_run.specs.declared.fault.StepFault.TheVariants.{TooLarge}
+use Rattle.word_runs.specs.declared.fault.StepFault.TheVariants.{TooLarge}
 use Rattle.comb_run.specs.Entries.{vector_of}
 use Rattle.comb_run.specs.Evaluated.{acted_step}
 use Rattle.comb_run.specs.Operations.{kernel_at}
-use Rattle.comb_run.proofs.LiveLemmas.{err_same}
+use Rattle.comb_run.proofs.PartLemmas.{err_same}
 use Rattle.comb_run.proofs.act.acted_sum.Goals as goal
 
 pub returns-in_err-sum-clause-too_large : goal.returns-in_err-sum-clause-too_large

@@ -5,14 +5,14 @@ use Rattle.symbol_table.specs.Category.{draft_symbols}
 use Rattle.comb_laws.specs.Operators.{acted}
 use Rattle.comb_run.specs.Operations.{kernel_at}
 use Rattle.comb_laws.specs.Operators.{kernel_of}
-use Rattle.comb_run.specs.declared.fault.StepFault.TheVariants.{TooLarge}
+use Rattle.word_runs.specs.declared.fault.StepFault.TheVariants.{TooLarge}
 use Rattle.comb_run.specs.Evaluated.{acted_at}
 use Rattle.comb_run.specs.Entries.{path_of, vector_of, items_of, entry_at}
 use Rattle.comb_run.proofs.Gather.{gathered_step, items_more, fits_step, among_item, vector_members}
 use Rattle.comb_run.proofs.ActLemmas.{on_path}
 use Rattle.comb_run.proofs.EntryLemmas.{put_there}
 use Rattle.comb_run.proofs.KeyLemmas.{path_keyed, unit_same}
-use Rattle.comb_run.proofs.LiveLemmas.{err_same}
+use Rattle.comb_run.proofs.PartLemmas.{err_same}
 use Rattle.comb_run.proofs.Values.{acted_value}
 use Rattle.comb_run.proofs.act.gather.Goals as goal
 

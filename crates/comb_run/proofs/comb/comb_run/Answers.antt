@@ -12,7 +12,7 @@ use Rattle.comb_run.specs.Comb.{commands_of, outcomes_in}
 use Rattle.comb_laws.specs.Plans.{outcomes_of}
 use Rattle.comb_laws.specs.Inner.{inner_outcomes_of}
 use Rattle.comb_run.specs.Evaluated.{evaluation_of}
-use Rattle.comb_run.specs.Lives.{Runs}
+use Rattle.word_runs.specs.Runs.{Runs}
 use Rattle.comb_laws.proofs.PathFacts.{and_true}
 use Rattle.comb_laws.proofs.StartLemmas.{comb_start}
 use Rattle.comb_run.proofs.CombLemmas.{site_commands, site_form, outcomes_run}
@@ -42,7 +42,7 @@ returns-clause-rows g c =
     let braids : is_measured_braid (size tree) c.deref.result.now ≡ true =
     subst (λ (cs : List Command). is_measured_braid (size tree) cs ≡ true) (sym c.deref.ensures.value) (site_form (size tree) plan.sites.items c.index.result.now form.1 c.index.ensures) in
     let inner : IfOk c.comb_rows.result (λ rows. outcomes_in rows ≡ inner_outcomes_of s tree c.deref.result.now) =
-    outcomes_run s (g.met.R.StarRing.laws category.ring) outcomes_in c.comb_rows.result tree (size tree) c.deref.result.now braids c.comb_rows.ensures in
+    outcomes_run s (g.met.R.StarRing.laws category.ring) outcomes_in c.comb_rows.result tree c.deref.result.now braids c.comb_rows.ensures in
     let outer : IfOk c.comb_rows.result (λ rows. outcomes_in rows ≡ outcomes_of s tree c.deref.result.now) =
     IfOk-weaker c.comb_rows.result _ _ (λ rows is. is ∙ sym (c.left_comb_start.ensures.outcomes tree c.deref.result.now start.left)) inner in
     subst (λ (cs : List Command). IfOk c.comb_rows.result (λ rows. outcomes_in rows ≡ outcomes_of s tree cs)) same outer

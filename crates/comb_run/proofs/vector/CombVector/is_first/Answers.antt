@@ -3,7 +3,7 @@ use Rattle.std.specs.Prelude.{is_some}
 use Rattle.std.specs.List.{list_all}
 use Rattle.comb_laws.specs.Paths.{labels}
 use Rattle.comb_run.specs.Entries.{entry_at}
-use Rattle.comb_run.proofs.LiveLemmas.{labels_fail}
+use Rattle.comb_run.proofs.PartLemmas.{labels_fail}
 use Rattle.comb_run.proofs.vector.CombVector.is_first.Goals as goal
 
 pub returns-then-has : goal.returns-then-has

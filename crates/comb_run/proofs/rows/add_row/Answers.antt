@@ -1,6 +1,6 @@
 use Rattle.std.proofs.Common.{◌∙◌, ◌++◌, ap}
-use Rattle.comb_run.proofs.LiveLemmas.{rows_pushed}
-use Rattle.comb_run.proofs.live.add_row.Goals as goal
+use Rattle.comb_run.proofs.RowLemmas.{rows_pushed}
+use Rattle.comb_run.proofs.rows.add_row.Goals as goal
 
 pub returns : goal.returns
 returns g c =
