@@ -4,12 +4,13 @@ use Rattle.cyclo_core.specs.Ratio.{Ratio}
 use Rattle.category_text.specs.Named.{NamedSymbols}
 use Rattle.program_text.specs.Program.{Program}
 use Rattle.program_text.specs.Reading.{comb_program_of}
+use Rattle.word_runs.specs.declared.fault.RunStop.{RunStop}
 use Rattle.comb_run.specs.Comb.{commands_of}
 use Rattle.comb_laws.specs.Plans.{Outcomes, outcomes_of}
 use Rattle.comb_run.specs.Evaluated.{evaluation_of}
 use Rattle.anyon_app.specs.declared.texts.Kind.TheVariants.{Category, Program as ProgramText}
 use Rattle.anyon_app.specs.Replies.{Reply, done}
-use Rattle.anyon_app.specs.Refusals.{too_long, not_built, turn_overflow}
+use Rattle.anyon_app.specs.Refusals.{too_long, not_built, stop_line}
 use Rattle.anyon_app.specs.Report.{report_of}
 use Rattle.anyon_app.specs.Work.{Work, Says, read_work, judged}
 use Rattle.anyon_app.specs.Categories.{named_of}
@@ -27,12 +28,12 @@ plan_or None = Err (not_built ProgramText)
 abbrev pub plan_of : NamedSymbols → List ℕ → Result Program Reply
 plan_of named text = plan_or (comb_program_of named.names named.given.count named.given.fuse text)
 
--- the report of these outcomes, unless the evaluation stops at a turn
-abbrev pub report_or : List (List ℕ) → Outcomes Ratio → Result (Outcomes Ratio) ℕ → Result (List ℕ) Reply
+-- the report of these outcomes, unless the evaluation stops
+abbrev pub report_or : List (List ℕ) → Outcomes Ratio → Result (Outcomes Ratio) RunStop → Result (List ℕ) Reply
 report_or names outcomes (Ok evaluated) = Ok (report_of names outcomes)
-report_or names outcomes (Err turn) = Err (turn_overflow turn)
+report_or names outcomes (Err stop) = Err (stop_line stop)
 
--- the report of the total and the rows by the comb operators, or the turn at which the stated evaluation stops
+-- the report of the total and the rows by the comb operators, or where the stated evaluation stops
 abbrev pub rows_of : NamedSymbols → Program → Result (List ℕ) Reply
 rows_of named plan =
     report_or named.names (outcomes_of (symbols_in named) plan.start (commands_of plan))

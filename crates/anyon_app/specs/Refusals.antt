@@ -10,6 +10,8 @@ use Rattle.symbol_table.specs.declared.law.Event.{Event}
 use Rattle.anyon_app.specs.declared.texts.Kind as text
 use Rattle.anyon_app.specs.declared.texts.Kind.TheVariants.{Category, Program}
 use Rattle.category_text.specs.declared.fault.CategoryCause.{CategoryCause}
+use Rattle.word_runs.specs.declared.fault.RunStop.{RunStop}
+use Rattle.word_runs.specs.declared.fault.RunStop.TheVariants.{Overflow as TurnOverflow, Branches, Wide}
 use Rattle.anyon_app.specs.Replies.{Reply}
 use Rattle.anyon_app.specs.Lines.{refusal_of, limit_of}
 use Rattle.anyon_app.specs.Causes.{category_cause}
@@ -62,6 +64,9 @@ abbrev pub too_long : text.Kind → Reply
 too_long Category = too_long_line Category
 too_long Program = not_built Program
 
--- an item of a turn that doesn't fit
-abbrev pub turn_overflow : ℕ → Reply
-turn_overflow turn = limit_of (codes "overflow" ∷ codes "turn" ∷ decimal turn ∷ [])
+-- where the stated evaluation of a run stops: an item of a turn that doesn't fit, more live words or more amplitudes over
+-- all of them than the limits allow
+abbrev pub stop_line : RunStop → Reply
+stop_line (TurnOverflow turn) = limit_of (codes "overflow" ∷ codes "turn" ∷ decimal turn ∷ [])
+stop_line (Branches turn count) = limit_of (codes "branches" ∷ codes "turn" ∷ decimal turn ∷ codes "count" ∷ decimal count ∷ [])
+stop_line (Wide turn entries) = limit_of (codes "wide" ∷ codes "turn" ∷ decimal turn ∷ codes "entries" ∷ decimal entries ∷ [])

@@ -12,15 +12,16 @@ ghost use Rattle.anyon_app.specs.Verdicts.{unless};
 
 use crate::categories::load_category;
 use crate::judge::{Admitted, judge};
-use crate::refusals::{not_built, turn_overflow};
+use crate::refusals::{not_built, stop_line};
 use crate::report::report;
 use crate::stop::Stop;
 use crate::texts::{Kind, text};
 use category_text::Named;
-use comb_run::{RunFault, comb_run};
+use comb_run::comb_run;
 use io_ports::Shelf;
 use program_text::{Plan, read_comb_program};
 use std::alloc::Global;
+use word_runs::RunFault;
 
 /// Reads a category and judges it, reads a program, runs it on left-combed paths and reports its
 /// rows. The category is judged before the program is read.
@@ -85,7 +86,7 @@ fn rows(alloc: Global, admitted: &Admitted, plan: &Plan) -> Result<Vec<u8>, Stop
 {
     let rows = match comb_run(alloc, &admitted.category, plan) {
         Ok(rows) => rows,
-        Err(RunFault::Overflow { turn }) => return Err(turn_overflow(alloc, turn)),
+        Err(RunFault::Stop(stop)) => return Err(stop_line(alloc, stop)),
         Err(RunFault::Memory) => return Err(Stop::OutOfMemory),
     };
     match report(alloc, &admitted.names, &rows) {

@@ -1,7 +1,7 @@
 // The lines of refusals and limits.
 ghost use Rattle.std.specs.Prelude.{◌≡◌, ◌∷◌, IfOk};
 ghost use Rattle.anyon_app.specs.Stages.{StopsWith};
-ghost use Rattle.anyon_app.specs.Refusals.{category_line, event_line, event_words, not_built, refused_line, rules_line, too_long, turn_overflow};
+ghost use Rattle.anyon_app.specs.Refusals.{category_line, event_line, event_words, not_built, refused_line, rules_line, stop_line, too_long};
 ghost use Rattle.anyon_app.specs.Lines.{line_of};
 
 use crate::causes::category_words;
@@ -13,6 +13,7 @@ use fusion_rules::{Names, RulesFault};
 use itoa::Buffer;
 use std::alloc::{AllocError, Global};
 use symbol_table::{Event, Kind as EventKind};
+use word_runs::RunStop;
 
 /// The stop at a text that has too many bytes.
 pub fn too_long(alloc: Global, kind: Kind) -> Stop
@@ -98,11 +99,25 @@ fn event_text(
     Ok(line)
 }
 
-/// The stop at a turn an item of which doesn't fit.
-pub fn turn_overflow(alloc: Global, turn: u32) -> Stop
-    ensures { StopsWith (turn_overflow turn) result }
+/// The stop where the stated evaluation of a run stops.
+pub fn stop_line(alloc: Global, stop: RunStop) -> Stop
+    ensures { StopsWith (stop_line stop) result }
 {
-    let mut buffer = Buffer::new();
-    let turn = buffer.format(turn);
-    limit(alloc, &["overflow", "turn", turn])
+    let mut turn_digits = Buffer::new();
+    let mut count_digits = Buffer::new();
+    match stop {
+        RunStop::Overflow { turn } => {
+            limit(alloc, &["overflow", "turn", turn_digits.format(turn)])
+        }
+        RunStop::Branches { turn, count } => {
+            let turn = turn_digits.format(turn);
+            let count = count_digits.format(count);
+            limit(alloc, &["branches", "turn", turn, "count", count])
+        }
+        RunStop::Wide { turn, entries } => {
+            let turn = turn_digits.format(turn);
+            let entries = count_digits.format(entries);
+            limit(alloc, &["wide", "turn", turn, "entries", entries])
+        }
+    }
 }

@@ -19,7 +19,7 @@ use Rattle.program_text.specs.declared.plan.Sign.{Sign}
 use Rattle.program_text.specs.declared.letter.Letter.TheVariants.{Crossing, Charge}
 use Rattle.word_runs.specs.Runs.{Live, live_after, both, split_by, joined, outcomes_of, ◌>>>◌, fitting, turn_of, run_of, start_word}
 use Rattle.word_runs.specs.declared.engine.Step.TheVariants.{Exchange}
-use Rattle.word_runs.specs.declared.fault.RunFault.{RunFault}
+use Rattle.word_runs.specs.declared.fault.RunStop.{RunStop}
 use Rattle.word_runs.proofs.EachLemmas.{some_same, ok_same, ok_first}
 use Rattle.word_runs.proofs.StepLemmas.{step_of_ok, fitted}
 use Rattle.program_text.specs.Form.{is_gap, is_measured_braid}
@@ -216,5 +216,5 @@ module _ {E : Type 0} (c : Symbols E) (laws : RingLaws c.ring c.held) where
       run_value n cs 1 (leaves tree) start third.0 second.0 form (ap (run_of (comb_told c n) 1 (letters 0 cs)) (sym one) ∙ third.1) (fit_ok (1 + length (letters 0 cs)) (rows_at c third.0) second.0 third.2) in
       sym (ok_inj (record { total = first.0; rows = second.0 }) o second.2) ∙ (λ j. record { total = sum j; rows = rows j })
     where
-      ok_inj : (x y : Outcomes E) → (let r : Result (Outcomes E) RunFault = Ok x in r ≡ Ok y) → x ≡ y
+      ok_inj : (x y : Outcomes E) → (let r : Result (Outcomes E) RunStop = Ok x in r ≡ Ok y) → x ≡ y
       ok_inj x y e = cc

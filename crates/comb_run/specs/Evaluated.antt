@@ -13,7 +13,7 @@ use Rattle.word_runs.specs.Told.{Told}
 use Rattle.word_runs.specs.Runs.{Live, ◌>>>◌, fitting, run_of, start_word}
 use Rattle.word_runs.specs.declared.engine.Step.{Step}
 use Rattle.word_runs.specs.declared.engine.Step.TheVariants.{Raise, Exchange}
-use Rattle.word_runs.specs.declared.fault.RunFault.{RunFault}
+use Rattle.word_runs.specs.declared.fault.RunStop.{RunStop}
 use Rattle.comb_laws.specs.Paths.{Path, Vector, is_path, paths, labels}
 use Rattle.comb_laws.specs.Operators.{strand, swapped, exchange_by, braided, projected}
 use Rattle.comb_laws.specs.Amplitudes.{own_vector}
@@ -159,13 +159,13 @@ rows_at c live = steps_over (row_step c) live []
 
 -- The rows that follow from live words, where the first of the letters has this turn; the turn after the last one
 -- evaluates the weights.
-abbrev pub rest_of : {E : Type 0} → Symbols E → ℕ → ℕ → List Letter → List (Live (State E)) → Result (List (List ℕ × E)) RunFault
+abbrev pub rest_of : {E : Type 0} → Symbols E → ℕ → ℕ → List Letter → List (Live (State E)) → Result (List (List ℕ × E)) RunStop
 rest_of c n turn ls live =
     run_of (comb_told c n) turn ls live >>> λ ends. fitting (turn + length ls) (rows_at c ends)
 
 -- The total and the rows of a left-combed start and its commands, or the first stop: turn 0 evaluates the total, each
 -- command is a turn from 1 on. The start has the amplitude one at the tree's own path.
-abbrev pub evaluation_of : {E : Type 0} → Symbols E → Labelled → List Command → Result (Outcomes E) RunFault
+abbrev pub evaluation_of : {E : Type 0} → Symbols E → Labelled → List Command → Result (Outcomes E) RunStop
 evaluation_of c tree commands =
     let start = own_vector c.ring tree in
     fitting 0 (weight_at c (leaves tree) start) >>> λ sum.

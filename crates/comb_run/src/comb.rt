@@ -26,7 +26,7 @@ use ring_laws::StarRing;
 use std::alloc::Global;
 use symbol_table::Category;
 use tree_shapes::Tree;
-use word_runs::{RunFault, run_commands};
+use word_runs::{RunFault, RunStop, run_commands};
 
 /// The rows at the end of commands from a state.
 fn end_rows<R: StarRing>(
@@ -68,7 +68,7 @@ fn comb_rows<R: StarRing>(
 {
     let start = start_state(alloc, category, tree)?;
     let Ok(total) = start.vector.weight(category, start.strands.as_slice()) else {
-        return Err(RunFault::Overflow { turn: 0 });
+        return Err(RunFault::Stop(RunStop::Overflow { turn: 0 }));
     };
     let list = end_rows(alloc, category, commands, start)?;
     Ok(Rows { total, list })

@@ -4,7 +4,7 @@ use Rattle.std.specs.Prelude.{Result, Ok, Err}
 use Rattle.std.specs.List.{AllByRecursion}
 use Rattle.std.proofs.lemmas.List.{map-append, take_more, take_more_set, get_or-drop, drop-drop, drop-set-lt}
 use Rattle.word_runs.specs.Runs.{both, each, ◌>>>◌}
-use Rattle.word_runs.specs.declared.fault.RunFault.{RunFault}
+use Rattle.word_runs.specs.declared.fault.RunStop.{RunStop}
 
 pub ok_same : {A F : Type 0} (r : Result A F) (a b : A) → r ≡ Ok a → r ≡ Ok b → a ≡ b
 ok_same r a b p q = cc
@@ -65,7 +65,7 @@ each_keeps f P Q k (x ∷ xs) ys e h =
     subst (AllByRecursion Q) (sym p.is) (k x p.head p.first h.0, each_keeps f P Q k xs p.tail p.rest h.1)
 
 -- a run that ends has ended its first part
-pub ok_first : {A B : Type 0} (r : Result A RunFault) (f : A → Result B RunFault) (y : B) → (r >>> f) ≡ Ok y → (x : A) × (r ≡ Ok x) × (f x ≡ Ok y)
+pub ok_first : {A B : Type 0} (r : Result A RunStop) (f : A → Result B RunStop) (y : B) → (r >>> f) ≡ Ok y → (x : A) × (r ≡ Ok x) × (f x ≡ Ok y)
 ok_first (Ok x) f y h = (x, refl, h)
 ok_first (Err g) f y h = absurd (cc)
 

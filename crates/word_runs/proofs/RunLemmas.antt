@@ -11,6 +11,7 @@ use Rattle.word_runs.specs.Told.{Told, IsGap}
 use Rattle.word_runs.specs.Runs.{Live, turn_of, run_of, ◌>>>◌, Stops}
 use Rattle.word_runs.specs.Lives.{AreAlike, IsFit, IsPlaceBelow}
 use Rattle.word_runs.specs.declared.fault.RunFault.{RunFault}
+use Rattle.word_runs.specs.declared.fault.RunStop.{RunStop}
 use Rattle.word_runs.proofs.StepLemmas.{stops_on}
 
 pub next_command : (commands : List Command) (i : ℕ) (d : Command) → i < length commands → drop i commands ≡ get_or commands i d ∷ drop (i + 1) commands
@@ -42,13 +43,13 @@ module _ {M T : Type 0} (e : Told M T) where
       (letter_fit m p c cs low gaps.0, letters_fit m (p + outcomes_of c) cs (omega (arith, more)) gaps.1)
 
   -- a turn that ends hands on what the turns behind it see
-  pub turn_more : (turn place : ℕ) (c : Command) (cs : List Command) (old new : List (Live M)) (stated : Result (List (Live M)) RunFault)
+  pub turn_more : (turn place : ℕ) (c : Command) (cs : List Command) (old new : List (Live M)) (stated : Result (List (Live M)) RunStop)
       → turn_of e turn (letter_at place c) old ≡ Ok new
       → run_of e turn (letters place (c ∷ cs)) old ≡ stated → run_of e (turn + 1) (letters (place + outcomes_of c) cs) new ≡ stated
   turn_more turn place c cs old new stated h s = sym (ap (λ r. r >>> run_of e (turn + 1) (letters (place + outcomes_of c) cs)) h) ∙ s
 
   -- a turn that stops is the stop of the run
-  pub turn_stops : (turn place : ℕ) (c : Command) (cs : List Command) (old : List (Live M)) (fault : RunFault) (stated : Result (List (Live M)) RunFault)
+  pub turn_stops : (turn place : ℕ) (c : Command) (cs : List Command) (old : List (Live M)) (fault : RunFault) (stated : Result (List (Live M)) RunStop)
       → Stops fault (turn_of e turn (letter_at place c) old)
       → run_of e turn (letters place (c ∷ cs)) old ≡ stated → Stops fault stated
   turn_stops turn place c cs old fault stated h s =

@@ -7,7 +7,9 @@ use Rattle.word_runs.specs.Runs.{Live, Test, passes, live_after, step_word, step
 use Rattle.word_runs.specs.Lives.{AreLong, AreAlike, HaveShape}
 use Rattle.word_runs.specs.declared.engine.Step.{Step}
 use Rattle.word_runs.specs.declared.fault.RunFault.{RunFault}
-use Rattle.word_runs.specs.declared.fault.RunFault.TheVariants.{Overflow, Branches, Wide, Memory}
+use Rattle.word_runs.specs.declared.fault.RunFault.TheVariants.{Stop, Memory}
+use Rattle.word_runs.specs.declared.fault.RunStop.{RunStop}
+use Rattle.word_runs.specs.declared.fault.RunStop.TheVariants.{Branches, Wide}
 use Rattle.word_runs.specs.declared.limits.TheConstants.{WORD_LIMIT, AMPLITUDE_LIMIT}
 use Rattle.word_runs.proofs.EachLemmas.{some_same, ok_same, each_keeps}
 use Rattle.word_runs.proofs.SplitLemmas.{split_shape, split_long}
@@ -107,8 +109,6 @@ module _ {M T : Type 0} (e : Told M T) where
   alike_made shapes turn k p before old view (Err f) from stated = tt
 
 -- a stop stays one
-pub stops_on : {A B : Type 0} (fault : RunFault) (r : Result A RunFault) (f : A → Result B RunFault) → Stops fault r → Stops fault (r >>> f)
-stops_on (Overflow turn) r f h = rw h refl
-stops_on (Branches turn count) r f h = rw h refl
-stops_on (Wide turn entries) r f h = rw h refl
+pub stops_on : {A B : Type 0} (fault : RunFault) (r : Result A RunStop) (f : A → Result B RunStop) → Stops fault r → Stops fault (r >>> f)
+stops_on (Stop stop) r f h = rw h refl
 stops_on Memory r f h = tt

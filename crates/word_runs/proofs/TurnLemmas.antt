@@ -4,7 +4,7 @@ use Rattle.std.specs.Prelude.{Result, Ok}
 use Rattle.std.specs.List.{AllByRecursion}
 use Rattle.word_runs.specs.Told.{Told, IsGap, AreShapes, after_raises}
 use Rattle.word_runs.specs.Runs.{Live, step_of, raises_of, path_of, ◌>>>◌}
-use Rattle.word_runs.specs.declared.fault.RunFault.{RunFault}
+use Rattle.word_runs.specs.declared.fault.RunStop.{RunStop}
 use Rattle.word_runs.specs.Lives.{HaveShape}
 use Rattle.word_runs.specs.declared.engine.Step.TheVariants.{Raise}
 use Rattle.word_runs.proofs.StepLemmas.{step_of_ok, step_pairs}
@@ -35,6 +35,6 @@ module _ {M T : Type 0} (e : Told M T) (shapes : AreShapes e) (k : ℕ) where
   raised_pairs turn gap rest old new h p =
       step_pairs e None (Raise gap) old new (step_of_ok e turn None (Raise gap) old new h) shapes (λ word t f. absurd (cc)) (λ t. e.is_pair k (after_raises e rest t) ≡ true) p
 
-  pub raised_left : (turn gap : ℕ) (rest : List ℕ) (old new : List (Live M)) (stated : Result (List (Live M)) RunFault) → step_of e turn None (Raise gap) old ≡ Ok new
+  pub raised_left : (turn gap : ℕ) (rest : List ℕ) (old new : List (Live M)) (stated : Result (List (Live M)) RunStop) → step_of e turn None (Raise gap) old ≡ Ok new
       → raises_of e turn (gap ∷ rest) old ≡ stated → raises_of e turn rest new ≡ stated
   raised_left turn gap rest old new stated h left = sym (ap (λ r. r >>> raises_of e turn rest) h) ∙ left

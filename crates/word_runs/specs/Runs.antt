@@ -7,7 +7,9 @@ use Rattle.word_runs.specs.Told.{Told}
 use Rattle.word_runs.specs.declared.engine.Step.{Step}
 use Rattle.word_runs.specs.declared.engine.Step.TheVariants.{Raise, Exchange}
 use Rattle.word_runs.specs.declared.fault.RunFault.{RunFault}
-use Rattle.word_runs.specs.declared.fault.RunFault.TheVariants.{Overflow, Branches, Wide, Memory}
+use Rattle.word_runs.specs.declared.fault.RunFault.TheVariants.{Stop, Memory}
+use Rattle.word_runs.specs.declared.fault.RunStop.{RunStop}
+use Rattle.word_runs.specs.declared.fault.RunStop.TheVariants.{Overflow, Branches, Wide}
 use Rattle.word_runs.specs.declared.limits.TheConstants.{WORD_LIMIT, AMPLITUDE_LIMIT, GREATEST_COUNT}
 
 -- A live word: one label for each measurement in text order, 0 where it isn't made yet; and its state.
@@ -72,7 +74,7 @@ width e live = sum_by (λ l. e.entries l.state) live
 
 infixl 10 ◌>>>◌
 -- what follows a value, and nothing after a stop
-abbrev pub ◌>>>◌ : {A B : Type 0} → Result A RunFault → (A → Result B RunFault) → Result B RunFault
+abbrev pub ◌>>>◌ : {A B : Type 0} → Result A RunStop → (A → Result B RunStop) → Result B RunStop
 (Ok x) >>> f = f x
 (Err stop) >>> f = Err stop
 
@@ -81,26 +83,26 @@ abbrev pub counted : ℕ → ℕ
 counted n = min n GREATEST_COUNT
 
 -- the two limits that are tried after each step, in this order
-abbrev pub limited : {M T : Type 0} → Told M T → ℕ → List (Live M) → Result (List (Live M)) RunFault
+abbrev pub limited : {M T : Type 0} → Told M T → ℕ → List (Live M) → Result (List (Live M)) RunStop
 limited e turn live =
     if nat_lt WORD_LIMIT (length live) then Err (Branches turn (counted (length live)))
     else (if nat_lt AMPLITUDE_LIMIT (width e live) then Err (Wide turn (counted (width e live))) else Ok live)
 
 -- overflow comes before them
-abbrev pub fitting : {A : Type 0} → ℕ → Option A → Result A RunFault
+abbrev pub fitting : {A : Type 0} → ℕ → Option A → Result A RunStop
 fitting turn None = Err (Overflow turn)
 fitting turn (Some x) = Ok x
 
 -- one step of a turn
-abbrev pub step_of : {M T : Type 0} → Told M T → ℕ → Option Test → Step → List (Live M) → Result (List (Live M)) RunFault
+abbrev pub step_of : {M T : Type 0} → Told M T → ℕ → Option Test → Step → List (Live M) → Result (List (Live M)) RunStop
 step_of e turn test step live = fitting turn (step_words e test step live) >>> limited e turn
 
 -- the step of a measurement
-abbrev pub split_of : {M T : Type 0} → Told M T → ℕ → (k place : ℕ) → List (Live M) → Result (List (Live M)) RunFault
+abbrev pub split_of : {M T : Type 0} → Told M T → ℕ → (k place : ℕ) → List (Live M) → Result (List (Live M)) RunStop
 split_of e turn k place live = fitting turn (split_words e k place live) >>> limited e turn
 
 -- a step for each of these gaps
-abbrev pub raises_of : {M T : Type 0} → Told M T → ℕ → List ℕ → List (Live M) → Result (List (Live M)) RunFault
+abbrev pub raises_of : {M T : Type 0} → Told M T → ℕ → List ℕ → List (Live M) → Result (List (Live M)) RunStop
 raises_of e turn [] live = Ok live
 raises_of e turn (k ∷ ks) live = step_of e turn None (Raise k) live >>> raises_of e turn ks
 
@@ -110,11 +112,11 @@ path_of e k [] = []
 path_of e k (l ∷ live) = e.path k (e.shape l.state)
 
 -- the steps that make a gap a pair
-abbrev pub settled : {M T : Type 0} → Told M T → ℕ → ℕ → List (Live M) → Result (List (Live M)) RunFault
+abbrev pub settled : {M T : Type 0} → Told M T → ℕ → ℕ → List (Live M) → Result (List (Live M)) RunStop
 settled e turn k live = raises_of e turn (path_of e k live) live
 
 -- One turn: the steps that make its gap a pair, and then its own.
-abbrev pub turn_of : {M T : Type 0} → Told M T → ℕ → Letter → List (Live M) → Result (List (Live M)) RunFault
+abbrev pub turn_of : {M T : Type 0} → Told M T → ℕ → Letter → List (Live M) → Result (List (Live M)) RunStop
 turn_of e turn (Still k) live = step_of e turn None (Raise k) live
 turn_of e turn (Crossing k sign) live = settled e turn k live >>> step_of e turn None (Exchange k sign)
 turn_of e turn (Tested k sign place label) live =
@@ -122,7 +124,7 @@ turn_of e turn (Tested k sign place label) live =
 turn_of e turn (Charge k place) live = settled e turn k live >>> split_of e turn k place
 
 -- The turns, of which the first has this number.
-abbrev pub run_of : {M T : Type 0} → Told M T → ℕ → List Letter → List (Live M) → Result (List (Live M)) RunFault
+abbrev pub run_of : {M T : Type 0} → Told M T → ℕ → List Letter → List (Live M) → Result (List (Live M)) RunStop
 run_of e turn [] live = Ok live
 run_of e turn (l ∷ ls) live = turn_of e turn l live >>> run_of e (turn + 1) ls
 
@@ -131,17 +133,15 @@ abbrev pub start_word : {M : Type 0} → ℕ → M → List (Live M)
 start_word m s = record { word = replicate m 0; state = s } ∷ []
 
 -- what a call answers: the value that is stated, or exactly the stated stop; want of memory is free
-abbrev pub Stops : {A : Type 0} → RunFault → Result A RunFault → Type 0
-Stops (Overflow turn) stated = stated ≡ Err (Overflow turn)
-Stops (Branches turn count) stated = stated ≡ Err (Branches turn count)
-Stops (Wide turn entries) stated = stated ≡ Err (Wide turn entries)
+abbrev pub Stops : {A : Type 0} → RunFault → Result A RunStop → Type 0
+Stops (Stop stop) stated = stated ≡ Err stop
 Stops Memory stated = Unit {0}
 
-abbrev pub Runs : {V A : Type 0} → (V → A) → Result V RunFault → Result A RunFault → Type 0
+abbrev pub Runs : {V A : Type 0} → (V → A) → Result V RunFault → Result A RunStop → Type 0
 Runs view (Ok value) stated = stated ≡ Ok (view value)
 Runs view (Err fault) stated = Stops fault stated
 
 -- the same of a call that changes what it is given: what it leaves counts where it answers Ok
-abbrev pub Leaves : {U A : Type 0} → A → Result U RunFault → Result A RunFault → Type 0
+abbrev pub Leaves : {U A : Type 0} → A → Result U RunFault → Result A RunStop → Type 0
 Leaves left (Ok u) stated = stated ≡ Ok left
 Leaves left (Err fault) stated = Stops fault stated

@@ -14,9 +14,9 @@ pub enum StepFault {
     NoRoom,
 }
 
-/// Why a run stops. Turns are counted from 1: each command is a turn.
+/// Where the stated evaluation of a run stops. Each command is a turn, counted from 1.
 #[derive(Clone, Copy, Debug, PartialEq, Eq, Drop)]
-pub enum RunFault {
+pub enum RunStop {
     /// An item of this turn doesn't fit. Turn 0 evaluates the total, and the turn after the last command evaluates
     /// the weights of the words.
     Overflow { turn: u32 },
@@ -25,6 +25,13 @@ pub enum RunFault {
     /// More than [`AMPLITUDE_LIMIT`](crate::AMPLITUDE_LIMIT) amplitudes stand over all live words after a step of
     /// this turn.
     Wide { turn: u32, entries: u32 },
+}
+
+/// Why a run ends before its rows.
+#[derive(Clone, Copy, Debug, PartialEq, Eq, Drop)]
+pub enum RunFault {
+    /// The stated evaluation stops here.
+    Stop(RunStop),
     /// Memory ran out.
     Memory,
 }
@@ -32,11 +39,11 @@ pub enum RunFault {
 impl StepFault {
     /// What a step that stops in a turn says of the run.
     pub fn in_turn(self, turn: u32) -> RunFault
-        ensures too_large { self ≡ StepFault.TooLarge → result ≡ RunFault.Overflow turn }
+        ensures too_large { self ≡ StepFault.TooLarge → result ≡ RunFault.Stop (RunStop.Overflow turn) }
         ensures no_room { self ≡ StepFault.NoRoom → result ≡ RunFault.Memory }
     {
         match self {
-            StepFault::TooLarge => RunFault::Overflow { turn },
+            StepFault::TooLarge => RunFault::Stop(RunStop::Overflow { turn }),
             StepFault::NoRoom => RunFault::Memory,
         }
     }

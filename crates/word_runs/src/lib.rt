@@ -9,7 +9,7 @@ mod run;
 mod turn;
 
 pub use engine::{Engine, Part, Step};
-pub use fault::{RunFault, StepFault};
+pub use fault::{RunFault, RunStop, StepFault};
 pub use limits::{AMPLITUDE_LIMIT, GREATEST_COUNT, WORD_LIMIT};
 pub use live::LiveWord;
 pub use run::run_commands;

@@ -8,7 +8,7 @@ ghost use Rattle.word_runs.specs.Lives.{lives_of, test_of, AreOf, IsTestBelow, A
 ghost use Rattle.word_runs.specs.declared.engine.Step.TheVariants.{Raise, Exchange};
 
 use crate::engine::{Engine, Step};
-use crate::fault::RunFault;
+use crate::fault::{RunFault, RunStop};
 use crate::limits::{AMPLITUDE_LIMIT, GREATEST_COUNT, WORD_LIMIT};
 use crate::live::{LiveWord, OutcomeTest, split_all, step_all};
 use program_text::{Letter, Sign};
@@ -43,17 +43,17 @@ fn try_limits<E: Engine>(
     ensures stated { Leaves (lives_of (E.seen engine.now) live.now) result (limited (E.told engine.now) turn (lives_of (E.seen engine.now) live.now)) }
 {
     if live.len() > WORD_LIMIT {
-        return Err(RunFault::Branches {
+        return Err(RunFault::Stop(RunStop::Branches {
             turn,
             count: counted(live.len()),
-        });
+        }));
     }
     let entries = width(engine, live);
     if entries > AMPLITUDE_LIMIT {
-        return Err(RunFault::Wide {
+        return Err(RunFault::Stop(RunStop::Wide {
             turn,
             entries: counted(entries),
-        });
+        }));
     }
     Ok(())
 }

@@ -1,7 +1,7 @@
 use Rattle.std.proofs.Common.{◌≡◌, ◌++◌, map, drop}
 use Rattle.line_text.specs.Spelling.{spelled}
 use Rattle.anyon_app.specs.Report.{report_of, row_words}
-use Rattle.comb_run.specs.Lives.{rows_of}
+use Rattle.comb_run.specs.States.{rows_of}
 use Rattle.comb_run.specs.Comb.{outcomes_in}
 use Rattle.anyon_app.proofs.report.report.Given as goal
 
