@@ -1,3 +1,4 @@
+mod Tried
 pub mod EachLemmas
 pub mod LimitLemmas
 pub mod RunLemmas
