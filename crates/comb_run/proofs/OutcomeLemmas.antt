@@ -1,6 +1,6 @@
 -- What the stated evaluation of a run gives is the total and the rows of the definitions.
 use Rattle.std.proofs.Common.{◌≡◌, ℕ, ◌+◌, Bool, true, false, not, List, [], ◌∷◌, ◌++◌, map, length, Option, Some, None, refl, ap, sym, ◌∙◌, append_assoc}
-use Rattle.std.specs.Prelude.{if◌then◌else◌, IsTrue, Result, Ok, Err}
+use Rattle.std.specs.Prelude.{if◌then◌else◌, IsTrue, Result, Ok}
 use Rattle.std.specs.Str.{bytes_eq}
 use Rattle.std.specs.List.{list_all, filter}
 use Rattle.std.proofs.lemmas.List.{append-nil}
@@ -28,7 +28,7 @@ use Rattle.comb_laws.specs.Operators.{swapped, braided, projected, weights_along
 use Rattle.comb_laws.specs.Amplitudes.{own_path, own_vector}
 use Rattle.comb_laws.specs.Plans.{Outcomes}
 use Rattle.comb_laws.specs.Inner.{inner_path_weight, inner_weight, inner_word_weight, inner_rows_from, inner_outcomes_of}
-use Rattle.comb_run.specs.Evaluated.{braided_fits, weights_along_at, path_weight_at, weight_term_at, weight_step, weight_at, is_nought, State, is_part, part_of, parts_at, row_step, rows_at, comb_told, rest_of, evaluation_of}
+use Rattle.comb_run.specs.Evaluated.{braided_fits, weights_along_at, path_weight_at, weight_term_at, weight_step, weight_at, is_nought, State, is_part, part_of, row_step, rows_at, comb_told, rest_of, evaluation_of}
 use Rattle.comb_laws.proofs.PathFacts.{and_true}
 use Rattle.comb_run.proofs.ActLemmas.{acted_is}
 use Rattle.comb_run.proofs.PartLemmas.{all_fit}

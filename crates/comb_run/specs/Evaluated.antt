@@ -1,5 +1,5 @@
 -- The stated evaluation on combs: which products, sums and conjugates arise, and the first stop.
-use Rattle.std.specs.Prelude.{ℕ, ◌+◌, ◌-◌, Bool, ◌&&◌, not, nat_lt, Option, Some, None, is_some, if◌then◌else◌, slice_index, slice_set, List, [], ◌∷◌, ◌++◌, map, length, Result, Ok, Err}
+use Rattle.std.specs.Prelude.{ℕ, ◌+◌, ◌-◌, Bool, ◌&&◌, not, nat_lt, Option, Some, None, is_some, if◌then◌else◌, slice_index, slice_set, List, [], ◌∷◌, ◌++◌, map, length, Result, Ok}
 use Rattle.std.specs.List.{filter, list_all}
 use Rattle.ring_laws.specs.Ring.{Ring}
 use Rattle.ring_laws.specs.Stated.{◌>>=◌, product_at, sum_at, conjugate_at, add_product_at, add_product3_at, steps, steps_over}

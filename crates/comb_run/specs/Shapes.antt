@@ -4,7 +4,7 @@ use Rattle.std.specs.Prelude.{◌&&◌, nat_lt}
 use Rattle.std.specs.List.{AllByRecursion}
 use Rattle.std.proofs.lemmas.Bool.Decides.{nat_tests}
 use Rattle.symbol_table.specs.Symbols.{Symbols}
-use Rattle.word_runs.specs.Told.{AreShapes, IsGap}
+use Rattle.word_runs.specs.Told.{AreShapes}
 use Rattle.comb_run.specs.Evaluated.{State, comb_told}
 
 no_shapes : {E : Type 0} (ps : List (ℕ × State E)) (t : Unit {0}) → AllByRecursion (λ part. tt ≡ t) ps

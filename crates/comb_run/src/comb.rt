@@ -15,8 +15,8 @@ ghost use Rattle.program_text.specs.Letters.{letters, measurements};
 ghost use Rattle.program_text.specs.declared.form.TheConstants.{COMMAND_LIMIT};
 ghost use Rattle.word_runs.specs.Runs.{Runs, start_word};
 
-use crate::key::Strands;
 use crate::engine::CombEngine;
+use crate::key::Strands;
 use crate::rows::{Row, Rows, rows_of_words};
 use crate::start::start_state;
 use crate::state::CombState;

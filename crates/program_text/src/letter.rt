@@ -10,9 +10,15 @@ use crate::plan::{Command, Sign};
 #[derive(Clone, Copy, PartialEq, Eq, Debug, Drop)]
 pub enum Letter {
     /// An exchange.
-    Crossing { gap: u8, sign: Sign },
+    Crossing {
+        gap: u8,
+        sign: Sign,
+    },
     /// A measurement of the charge, whose outcome stands at the place.
-    Charge { gap: u8, place: u32 },
+    Charge {
+        gap: u8,
+        place: u32,
+    },
     /// An exchange on the words that have the label at the place.
     Tested {
         gap: u8,
@@ -21,7 +27,9 @@ pub enum Letter {
         label: u8,
     },
     /// A raise, which no vector sees.
-    Still { gap: u8 },
+    Still {
+        gap: u8,
+    },
 }
 
 impl Command {

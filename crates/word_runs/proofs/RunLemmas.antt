@@ -4,12 +4,11 @@ use Rattle.std.specs.Prelude.{Result, Ok}
 use Rattle.std.specs.List.{AllByRecursion}
 use Rattle.std.proofs.lemmas.List.{length-replicate}
 use Rattle.program_text.specs.Letters.{gap_of, letter_at, letters, outcomes_of, measurements}
-use Rattle.program_text.specs.declared.letter.Letter.{Letter}
 use Rattle.program_text.specs.declared.plan.Command.{Command}
 use Rattle.program_text.specs.declared.plan.Command.TheVariants.{Braid, Raise, Measure}
 use Rattle.word_runs.specs.Told.{Told, IsGap}
 use Rattle.word_runs.specs.Runs.{Live, turn_of, run_of, ◌>>>◌, Stops}
-use Rattle.word_runs.specs.Lives.{AreAlike, IsFit, IsPlaceBelow}
+use Rattle.word_runs.specs.Lives.{AreAlike, IsFit}
 use Rattle.word_runs.specs.declared.fault.RunFault.{RunFault}
 use Rattle.word_runs.specs.declared.fault.RunStop.{RunStop}
 use Rattle.word_runs.proofs.StepLemmas.{stops_on}

@@ -1,5 +1,5 @@
 -- Steps on live words.
-use Rattle.std.proofs.Common.{◌≡◌, ℕ, Bool, true, false, List, [], ◌∷◌, length, Option, Some, None, refl, ap, sym, subst, ◌∙◌}
+use Rattle.std.proofs.Common.{◌≡◌, ℕ, Bool, true, false, List, length, Option, Some, None, refl, ap, sym, subst, ◌∙◌}
 use Rattle.std.specs.Prelude.{Result, Ok, Err, if◌then◌else◌, nat_lt, OnOk, IfOk}
 use Rattle.std.specs.List.{AllByRecursion}
 use Rattle.word_runs.specs.Told.{Told, AreShapes, after_step}

@@ -34,11 +34,7 @@ fn counted(count: usize) -> u32
 }
 
 /// The two limits that are tried after each step: the live words, then the amplitudes over all of them.
-fn try_limits<E: Engine>(
-    engine: &E,
-    live: &[LiveWord<E::State>],
-    turn: u32,
-) -> Result<(), RunFault>
+fn try_limits<E: Engine>(engine: &E, live: &[LiveWord<E::State>], turn: u32) -> Result<(), RunFault>
     requires of { AreOf (E.Of engine.now) live.now }
     ensures stated { Leaves (lives_of (E.seen engine.now) live.now) result (limited (E.told engine.now) turn (lives_of (E.seen engine.now) live.now)) }
 {

@@ -1,10 +1,7 @@
-use Rattle.std.proofs.Common.{◌≡◌, ◌+◌, ◌∙◌, length, ap, sym, subst, Err, Ok, arith}
-use Rattle.std.specs.List.{AllByRecursion}
-use Rattle.std.specs.Prelude.{Some, None}
+use Rattle.std.proofs.Common.{◌≡◌, ◌+◌, ◌∙◌, length, ap, sym, Err, Ok, arith}
 use Rattle.symbol_table.specs.Category.{draft_symbols}
-use Rattle.program_text.specs.Letters.{gap_of, letters, measurements}
+use Rattle.program_text.specs.Letters.{letters, measurements}
 use Rattle.program_text.specs.Form.{is_measured_braid}
-use Rattle.word_runs.specs.Told.{IsGap}
 use Rattle.word_runs.specs.Lives.{lives_of}
 use Rattle.word_runs.specs.Runs.{run_of, start_word}
 use Rattle.word_runs.specs.declared.fault.RunFault.TheVariants.{Stop}

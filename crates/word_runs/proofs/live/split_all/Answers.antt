@@ -3,7 +3,6 @@ use Rattle.std.proofs.lemmas.Result.{err_from_is_err_and}
 use Rattle.std.proofs.lemmas.List.{length-map}
 use Rattle.word_runs.specs.Runs.{Live, split_word}
 use Rattle.word_runs.specs.Lives.{live_of, lives_of}
-use Rattle.word_runs.specs.declared.live.LiveWord.{LiveWord}
 use Rattle.word_runs.specs.declared.fault.StepFault.TheVariants.{TooLarge}
 use Rattle.word_runs.proofs.EachLemmas.{all_item, err_same, get_map}
 use Rattle.word_runs.proofs.SplitLemmas.{split_more, split_fails}
