@@ -21,3 +21,6 @@ pub use fault::{RunFault, RunStop, StepFault};
 pub use limits::{AMPLITUDE_LIMIT, GREATEST_COUNT, WORD_LIMIT};
 pub use live::LiveWord;
 pub use run::run_commands;
+
+#[cfg(test)]
+mod tests;
