@@ -1,11 +1,11 @@
 -- The text of all labels is written label by label.
-use Rattle.std.proofs.Common.{◌≡◌, ◌↔◌, ℕ, suc, ◌+◌, ◌-◌, ◌<◌, List, [], ◌∷◌, ◌++◌, Bool, true, false, length, map, filter, drop, refl, ap, sym, ◌∙◌, arith, append_assoc, IsTrue, if◌then◌else◌, inl, inr, subst, Result, Ok, Err, OnOk, codes}
+use Rattle.std.proofs.Common.{◌≡◌, ◌↔◌, ℕ, suc, ◌+◌, ◌-◌, ◌<◌, List, [], ◌∷◌, ◌++◌, Bool, true, false, length, map, filter, take, drop, refl, ap, sym, ◌∙◌, arith, append_assoc, IsTrue, if◌then◌else◌, inl, inr, subst, Result, Ok, Err, OnOk, codes}
 use Rattle.std.specs.Fmt.{decimal}
 use Rattle.std.specs.List.{flat_map}
 use Rattle.std.proofs.lemmas.List.{append-nil, drop_more}
 use Rattle.std.proofs.lemmas.Bool.{cases_lt}
 use Rattle.line_text.specs.Spelling.{spelled, spaced}
-use Rattle.line_text.specs.Writing.{spaced_on}
+use Rattle.line_text.specs.Writing.{Extends, spaced_on}
 use Rattle.line_text.proofs.WritingLemmas.{line_more, spelled-append}
 use Rattle.cyclo_core.specs.Ratio.{Ratio, same_ratio}
 use Rattle.cyclo_core.specs.CycloLaws.{same_ratio_is}
@@ -125,10 +125,16 @@ same_truth false false there back = refl
 pub is_one_is : (test : Bool) (x y : Ratio) → IsTrue test ↔ (x ≡ y) → test ≡ same_ratio x y
 is_one_is test x y says = same_truth test (same_ratio x y) (λ t. (same_ratio_is x y).1 (says.0 t)) (λ t. says.1 ((same_ratio_is x y).0 t))
 
--- what holds anyway holds where there is a value
-pub where_ok : {T E P : Type 0} (r : Result T E) → P → OnOk r P
-where_ok (Ok x) p = p
-where_ok (Err e) p = tt
+-- what follows of a call that answers what another does
+pub where_ok : {T E P Q : Type 0} (r s : Result T E) → s ≡ r → OnOk r P → (P → Q) → OnOk s Q
+where_ok (Ok x) (Ok y) same p f = f p
+where_ok (Ok x) (Err e) same p f = tt
+where_ok (Err e) (Ok y) same p f = absurd (cc)
+where_ok (Err e) (Err d) same p f = tt
+
+-- a call that was refused left what stood in front
+pub refused : {T E : Type 0} (r : Result T E) (e : E) (old new text : List ℕ) → r ≡ Err e → take (length old) new ≡ old → Extends r old new text
+refused r e old new text is kept = rw is kept
 
 -- the head, part by part
 pub head_is : (root : ℕ) (names : List (List ℕ)) (a b c d e f g h : List ℕ) → b ≡ a ++ spelled ((codes "category" ∷ codes "1" ∷ []) ∷ []) → c ≡ b ++ codes "root" → d ≡ c ++ 32 ∷ decimal root → e ≡ d ++ 10 ∷ [] → f ≡ e ++ codes "labels" → g ≡ f ++ spaced_on names → h ≡ g ++ 10 ∷ []

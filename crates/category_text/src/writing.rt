@@ -1,6 +1,6 @@
 ghost use Rattle.std.specs.Prelude.{◌≡◌, ◌<◌, ◌-◌, ◌^◌, ◌++◌, ◌∷◌, [], IsTrue, IfOk, OnOk, OnErr, length};
 ghost use Rattle.line_text.specs.Spelling.{spelled};
-ghost use Rattle.line_text.specs.Writing.{spaced_on};
+ghost use Rattle.line_text.specs.Writing.{Extends, spaced_on};
 ghost use Rattle.poly_core.specs.Rho.{is_accepted};
 ghost use Rattle.cyclo_core.specs.Ratio.{is_held, ring_at};
 ghost use Rattle.cyclo_text.specs.NumberWords.{spelled_number};
@@ -17,7 +17,7 @@ use crate::named::Named;
 use cyclo_core::{Cyclo, Number};
 use cyclo_text::write_number;
 use fusion_rules::{Names, UNIT};
-use line_text::{end_line, write_line, write_plain_number, write_word};
+use line_text::{cut_back, end_line, write_line, write_plain_number, write_word};
 use ring_laws::StarRing;
 use std::alloc::{AllocError, Global};
 use symbol_table::{FIndex, VIndex};
@@ -35,28 +35,32 @@ pub fn write_category(alloc: Global, named: &Named, out: &mut Vec<u8>) -> Result
     ensures short { OnOk result (length (canonical (seen named.now)) < 2 ^ 32 - 1) }
     ensures unchanged { OnErr result (out.new.items ≡ out.old.items) }
 {
-    let text = whole_text(alloc, named)?;
-    out.extend_from_slice(&text)
+    let begun = out.len();
+    let written = write_lines(alloc, named, out);
+    cut_back(written, begun, out)
 }
 
-fn whole_text(alloc: Global, named: &Named) -> Result<Vec<u8>, AllocError>
+/// Appends all lines. Where a writer of this file is refused, what stood in `text` is still in front; what was written
+/// behind it is cut off by [`write_category`] alone.
+#[tactic(auto, using(line_text::proofs::WritingLemmas::still_in_front, line_text::proofs::WritingLemmas::in_front))]
+fn write_lines(alloc: Global, named: &Named, text: &mut Vec<u8>) -> Result<(), AllocError>
     requires { length named.now.names ≡ named.now.draft.rules.count }
-    ensures text { IfOk result (λ text. text.items ≡ canonical (seen named.now)) }
+    ensures text { Extends result text.old.items text.new.items (canonical (seen named.now)) }
     ensures said { OnOk result (IsSaid (seen named.now)) }
 {
-    let mut text = Vec::new(alloc);
-    write_head(named, &mut text)?;
-    write_group(alloc, named, Group::Fusions, &mut text)?;
-    write_f_groups(alloc, named, &mut text)?;
-    write_group(alloc, named, Group::Vertices(VertexKind::OnR), &mut text)?;
-    write_group(alloc, named, Group::Vertices(VertexKind::OnW), &mut text)?;
-    write_group(alloc, named, Group::Vertices(VertexKind::OnV), &mut text)?;
-    Ok(text)
+    write_head(named, text)?;
+    write_group(alloc, named, Group::Fusions, text)?;
+    write_f_groups(alloc, named, text)?;
+    write_group(alloc, named, Group::Vertices(VertexKind::OnR), text)?;
+    write_group(alloc, named, Group::Vertices(VertexKind::OnW), text)?;
+    write_group(alloc, named, Group::Vertices(VertexKind::OnV), text)?;
+    Ok(())
 }
 
 /// Appends the first three lines.
+#[tactic(auto, using(line_text::proofs::WritingLemmas::still_in_front, line_text::proofs::WritingLemmas::in_front))]
 fn write_head(named: &Named, text: &mut Vec<u8>) -> Result<(), AllocError>
-    ensures text { OnOk result (text.new.items ≡ text.old.items ++ spelled (head_lines (seen named.now))) }
+    ensures text { Extends result text.old.items text.new.items (spelled (head_lines (seen named.now))) }
     ensures names { OnOk result (AreNames named.now.names) }
     ensures accepted { OnOk result (IsTrue (is_accepted named.now.draft.ring)) }
 {
@@ -71,8 +75,9 @@ fn write_head(named: &Named, text: &mut Vec<u8>) -> Result<(), AllocError>
 }
 
 /// Appends all names, each behind a space.
+#[tactic(auto, using(line_text::proofs::WritingLemmas::still_in_front, line_text::proofs::WritingLemmas::in_front))]
 fn write_names(names: &Names, text: &mut Vec<u8>) -> Result<(), AllocError>
-    ensures text { OnOk result (text.new.items ≡ text.old.items ++ spaced_on names.now) }
+    ensures text { Extends result text.old.items text.new.items (spaced_on names.now) }
     ensures names { AreNames names.now }
 {
     for label in 0..names.count() {
@@ -82,9 +87,10 @@ fn write_names(names: &Names, text: &mut Vec<u8>) -> Result<(), AllocError>
 }
 
 /// Appends the F lines, for all first three labels.
+#[tactic(auto, using(line_text::proofs::WritingLemmas::still_in_front, line_text::proofs::WritingLemmas::in_front))]
 fn write_f_groups(alloc: Global, named: &Named, text: &mut Vec<u8>) -> Result<(), AllocError>
     requires { length named.now.names ≡ named.now.draft.rules.count }
-    ensures text { OnOk result (text.new.items ≡ text.old.items ++ space named.now.draft.rules.count (behind_text (seen named.now))) }
+    ensures text { Extends result text.old.items text.new.items (space named.now.draft.rules.count (behind_text (seen named.now))) }
     ensures numbers { OnOk result (InSpace named.now.draft.rules.count (BehindNumber (seen named.now))) }
     ensures rules { AreRules named.now.draft.rules }
 {
@@ -94,10 +100,11 @@ fn write_f_groups(alloc: Global, named: &Named, text: &mut Vec<u8>) -> Result<()
     Ok(())
 }
 
+#[tactic(auto, using(line_text::proofs::WritingLemmas::still_in_front, line_text::proofs::WritingLemmas::in_front))]
 fn write_f_planes(alloc: Global, named: &Named, a: u8, text: &mut Vec<u8>) -> Result<(), AllocError>
     requires names { length named.now.names ≡ named.now.draft.rules.count }
     requires first { a < named.now.draft.rules.count }
-    ensures text { OnOk result (text.new.items ≡ text.old.items ++ plane named.now.draft.rules.count (behind_text (seen named.now)) a) }
+    ensures text { Extends result text.old.items text.new.items (plane named.now.draft.rules.count (behind_text (seen named.now)) a) }
     ensures numbers { OnOk result (InPlane named.now.draft.rules.count (BehindNumber (seen named.now)) a) }
 {
     for b in 0..named.names.count() {
@@ -106,6 +113,7 @@ fn write_f_planes(alloc: Global, named: &Named, a: u8, text: &mut Vec<u8>) -> Re
     Ok(())
 }
 
+#[tactic(auto, using(line_text::proofs::WritingLemmas::still_in_front, line_text::proofs::WritingLemmas::in_front))]
 fn write_f_rows(
     alloc: Global,
     named: &Named,
@@ -116,7 +124,7 @@ fn write_f_rows(
     requires names { length named.now.names ≡ named.now.draft.rules.count }
     requires first { a < named.now.draft.rules.count }
     requires second { b < named.now.draft.rules.count }
-    ensures text { OnOk result (text.new.items ≡ text.old.items ++ row named.now.draft.rules.count (behind_text (seen named.now)) a b) }
+    ensures text { Extends result text.old.items text.new.items (row named.now.draft.rules.count (behind_text (seen named.now)) a b) }
     ensures numbers { OnOk result (InRow named.now.draft.rules.count (BehindNumber (seen named.now)) a b) }
 {
     for c in 0..named.names.count() {
@@ -126,6 +134,7 @@ fn write_f_rows(
 }
 
 /// Appends the lines of a group, for all three labels.
+#[tactic(auto, using(line_text::proofs::WritingLemmas::still_in_front, line_text::proofs::WritingLemmas::in_front))]
 fn write_group(
     alloc: Global,
     named: &Named,
@@ -134,7 +143,7 @@ fn write_group(
 ) -> Result<(), AllocError>
     requires names { length named.now.names ≡ named.now.draft.rules.count }
     requires below { GroupBelow named.now.draft.rules.count group }
-    ensures text { OnOk result (text.new.items ≡ text.old.items ++ space named.now.draft.rules.count (group_text (seen named.now) group)) }
+    ensures text { Extends result text.old.items text.new.items (space named.now.draft.rules.count (group_text (seen named.now) group)) }
     ensures numbers { OnOk result (InSpace named.now.draft.rules.count (GroupNumber (seen named.now) group)) }
 {
     for a in 0..named.names.count() {
@@ -143,6 +152,7 @@ fn write_group(
     Ok(())
 }
 
+#[tactic(auto, using(line_text::proofs::WritingLemmas::still_in_front, line_text::proofs::WritingLemmas::in_front))]
 fn write_plane(
     alloc: Global,
     named: &Named,
@@ -153,7 +163,7 @@ fn write_plane(
     requires names { length named.now.names ≡ named.now.draft.rules.count }
     requires below { GroupBelow named.now.draft.rules.count group }
     requires first { a < named.now.draft.rules.count }
-    ensures text { OnOk result (text.new.items ≡ text.old.items ++ plane named.now.draft.rules.count (group_text (seen named.now) group) a) }
+    ensures text { Extends result text.old.items text.new.items (plane named.now.draft.rules.count (group_text (seen named.now) group) a) }
     ensures numbers { OnOk result (InPlane named.now.draft.rules.count (GroupNumber (seen named.now) group) a) }
 {
     for b in 0..named.names.count() {
@@ -162,6 +172,7 @@ fn write_plane(
     Ok(())
 }
 
+#[tactic(auto, using(line_text::proofs::WritingLemmas::still_in_front, line_text::proofs::WritingLemmas::in_front))]
 fn write_row(
     alloc: Global,
     named: &Named,
@@ -174,7 +185,7 @@ fn write_row(
     requires below { GroupBelow named.now.draft.rules.count group }
     requires first { a < named.now.draft.rules.count }
     requires second { b < named.now.draft.rules.count }
-    ensures text { OnOk result (text.new.items ≡ text.old.items ++ row named.now.draft.rules.count (group_text (seen named.now) group) a b) }
+    ensures text { Extends result text.old.items text.new.items (row named.now.draft.rules.count (group_text (seen named.now) group) a b) }
     ensures numbers { OnOk result (InRow named.now.draft.rules.count (GroupNumber (seen named.now) group) a b) }
 {
     for c in 0..named.names.count() {
@@ -184,6 +195,7 @@ fn write_row(
 }
 
 /// Appends the line of three labels, where they have one.
+#[tactic(auto, using(line_text::proofs::WritingLemmas::still_in_front, line_text::proofs::WritingLemmas::in_front))]
 fn write_entry(
     alloc: Global,
     named: &Named,
@@ -194,7 +206,7 @@ fn write_entry(
     requires names { length named.now.names ≡ named.now.draft.rules.count }
     requires below { GroupBelow named.now.draft.rules.count group }
     requires labels { AreThreeLabels named.now.draft.rules.count at.a at.b at.c }
-    ensures text { OnOk result (text.new.items ≡ text.old.items ++ group_text (seen named.now) group at) }
+    ensures text { Extends result text.old.items text.new.items (group_text (seen named.now) group at) }
     ensures numbers { OnOk result (GroupNumber (seen named.now) group at) }
 {
     match group {
@@ -205,10 +217,11 @@ fn write_entry(
 }
 
 /// Appends the line of a triple whose first two labels aren't the unit.
+#[tactic(auto, using(line_text::proofs::WritingLemmas::still_in_front, line_text::proofs::WritingLemmas::in_front))]
 fn write_fuse(named: &Named, at: VIndex, text: &mut Vec<u8>) -> Result<(), AllocError>
     requires names { length named.now.names ≡ named.now.draft.rules.count }
     requires labels { AreThreeLabels named.now.draft.rules.count at.a at.b at.c }
-    ensures { OnOk result (text.new.items ≡ text.old.items ++ fuse_text (seen named.now) at) }
+    ensures { Extends result text.old.items text.new.items (fuse_text (seen named.now) at) }
 {
     if at.a == UNIT || at.b == UNIT || !named.draft.rules().allows(at.a, at.b, at.c) {
         return Ok(());
@@ -220,6 +233,7 @@ fn write_fuse(named: &Named, at: VIndex, text: &mut Vec<u8>) -> Result<(), Alloc
 }
 
 /// Appends the line of a symbol of a vertex, where it is admissible and isn't 1.
+#[tactic(auto, using(line_text::proofs::WritingLemmas::still_in_front, line_text::proofs::WritingLemmas::in_front))]
 fn write_vertex(
     alloc: Global,
     named: &Named,
@@ -229,7 +243,7 @@ fn write_vertex(
 ) -> Result<(), AllocError>
     requires names { length named.now.names ≡ named.now.draft.rules.count }
     requires labels { AreThreeLabels named.now.draft.rules.count at.a at.b at.c }
-    ensures text { OnOk result (text.new.items ≡ text.old.items ++ vertex_text (seen named.now) kind at) }
+    ensures text { Extends result text.old.items text.new.items (vertex_text (seen named.now) kind at) }
     ensures numbers { OnOk result (VertexNumber (seen named.now) kind at) }
 {
     if !named.draft.rules().allows(at.a, at.b, at.c) {
@@ -241,10 +255,12 @@ fn write_vertex(
     }
     text.extend_from_slice(kind_word(kind))?;
     write_labels(&named.names, at, text)?;
-    write_value(alloc, &value, text)
+    write_value(alloc, &value, text)?;
+    Ok(())
 }
 
 /// Appends the line of F, where it is admissible and isn't 1.
+#[tactic(auto, using(line_text::proofs::WritingLemmas::still_in_front, line_text::proofs::WritingLemmas::in_front))]
 fn write_f(
     alloc: Global,
     named: &Named,
@@ -255,7 +271,7 @@ fn write_f(
     requires names { length named.now.names ≡ named.now.draft.rules.count }
     requires first { AreThreeLabels named.now.draft.rules.count first.a first.b first.c }
     requires last { AreThreeLabels named.now.draft.rules.count last.a last.b last.c }
-    ensures text { OnOk result (text.new.items ≡ text.old.items ++ f_text (seen named.now) (behind first last)) }
+    ensures text { Extends result text.old.items text.new.items (f_text (seen named.now) (behind first last)) }
     ensures numbers { OnOk result (FNumber (seen named.now) (behind first last)) }
 {
     let at = FIndex {
@@ -278,6 +294,7 @@ fn write_f(
 }
 
 /// Appends the line of F with these labels and this value.
+#[tactic(auto, using(line_text::proofs::WritingLemmas::still_in_front, line_text::proofs::WritingLemmas::in_front))]
 fn write_f_line(
     alloc: Global,
     names: &Names,
@@ -286,7 +303,7 @@ fn write_f_line(
     text: &mut Vec<u8>,
 ) -> Result<(), AllocError>
     requires { AreSixLabels (length names.now) at.now.a at.now.b at.now.c at.now.d at.now.e at.now.f }
-    ensures { OnOk result (text.new.items ≡ text.old.items ++ spelled (f_words names.now at.now value.now ∷ [])) }
+    ensures { Extends result text.old.items text.new.items (spelled (f_words names.now at.now value.now ∷ [])) }
 {
     let first = VIndex {
         a: at.a,
@@ -337,9 +354,10 @@ fn is_one(ring: &Cyclo, value: &Number) -> bool
 }
 
 /// Appends three names, each behind a space.
+#[tactic(auto, using(line_text::proofs::WritingLemmas::still_in_front, line_text::proofs::WritingLemmas::in_front))]
 fn write_labels(names: &Names, at: VIndex, text: &mut Vec<u8>) -> Result<(), AllocError>
     requires { AreThreeLabels (length names.now) at.a at.b at.c }
-    ensures { OnOk result (text.new.items ≡ text.old.items ++ 32 ∷ (name_of names.now at.a ++ 32 ∷ (name_of names.now at.b ++ 32 ∷ name_of names.now at.c))) }
+    ensures { Extends result text.old.items text.new.items (32 ∷ (name_of names.now at.a ++ 32 ∷ (name_of names.now at.b ++ 32 ∷ name_of names.now at.c))) }
 {
     write_word(names.name(at.a), text)?;
     write_word(names.name(at.b), text)?;
@@ -348,8 +366,9 @@ fn write_labels(names: &Names, at: VIndex, text: &mut Vec<u8>) -> Result<(), All
 }
 
 /// Appends a space, a number and the end of the line.
+#[tactic(auto, using(line_text::proofs::WritingLemmas::still_in_front, line_text::proofs::WritingLemmas::in_front))]
 fn write_value(alloc: Global, value: &Number, text: &mut Vec<u8>) -> Result<(), AllocError>
-    ensures { OnOk result (text.new.items ≡ text.old.items ++ 32 ∷ (spelled_number value.now ++ 10 ∷ [])) }
+    ensures { Extends result text.old.items text.new.items (32 ∷ (spelled_number value.now ++ 10 ∷ [])) }
 {
     text.push(b' ')?;
     write_number(alloc, value, text)?;

@@ -1,7 +1,7 @@
 -- Words and lines, one behind the other.
-use Rattle.std.proofs.Common.{◌≡◌, ℕ, suc, ◌+◌, ◌<◌, List, [], ◌∷◌, ◌++◌, length, map, get_or, take, refl, sym, ap, ◌∙◌, arith, append_assoc}
-use Rattle.std.proofs.Math.Seq.{take-suc}
-use Rattle.std.proofs.lemmas.List.{append-nil, get_or-map, length-map}
+use Rattle.std.proofs.Common.{◌≡◌, ℕ, suc, ◌+◌, ◌<◌, List, [], ◌∷◌, ◌++◌, length, map, get_or, take, drop, refl, sym, ap, ◌∙◌, arith, append_assoc}
+use Rattle.std.proofs.Math.Seq.{take-suc, take-append_seam}
+use Rattle.std.proofs.lemmas.List.{append-nil, get_or-map, length-map, take-append-drop}
 use Rattle.line_text.specs.Spelling.{spaced, spelled}
 use Rattle.line_text.specs.Writing.{spaced_on}
 
@@ -33,3 +33,19 @@ words_more f xs d i old mid new within before now =
 pub line_more : (first : List ℕ) (others : List (List ℕ)) (old one two new : List ℕ) → one ≡ old ++ first → two ≡ one ++ spaced_on others → new ≡ two ++ 10 ∷ [] → new ≡ old ++ spelled ((first ∷ others) ∷ [])
 line_more first others old one two new a b c =
     c ∙ ap (λ t. t ++ 10 ∷ []) (b ∙ ap (λ t. t ++ spaced_on others) a ∙ append_assoc old first (spaced_on others) ∙ ap (λ t. old ++ t) (sym (spaced-cons first others))) ∙ append_assoc old (spaced (first ∷ others)) (10 ∷ [])
+
+-- what stands in front of some text does so in what has that in front
+pub in_front : (old mid new : List ℕ) → take (length old) mid ≡ old → take (length mid) new ≡ mid → take (length old) new ≡ old
+in_front old mid new first kept =
+    let inner : mid ≡ old ++ drop (length old) mid = sym (take-append-drop (length old) mid) ∙ ap (λ t. t ++ drop (length old) mid) first in
+    let whole : new ≡ old ++ (drop (length old) mid ++ drop (length mid) new) =
+    sym (take-append-drop (length mid) new) ∙ ap (λ t. t ++ drop (length mid) new) (kept ∙ inner) ∙ append_assoc old (drop (length old) mid) (drop (length mid) new) in
+    ap (take (length old)) whole ∙ take-append_seam old (drop (length old) mid ++ drop (length mid) new)
+
+-- so also where more of it was refused behind a part that was written
+pub still_in_front : (old text mid new : List ℕ) → mid ≡ old ++ text → take (length mid) new ≡ mid → take (length old) new ≡ old
+still_in_front old text mid new begun kept = in_front old mid new (ap (take (length old)) begun ∙ take-append_seam old text) kept
+
+-- and where more was written
+pub front_more : (old mid text new : List ℕ) → take (length old) mid ≡ old → new ≡ mid ++ text → take (length old) new ≡ old
+front_more old mid text new first more = in_front old mid new first (ap (take (length mid)) more ∙ take-append_seam mid text)

@@ -1,7 +1,7 @@
 -- The text of a program with the one site `main`, part by part.
-use Rattle.std.proofs.Common.{◌≡◌, ℕ, suc, ◌+◌, ◌<◌, List, [], ◌∷◌, ◌++◌, length, map, take, drop, get_or, refl, sym, ap, ◌∙◌, arith, append_assoc, codes}
-use Rattle.std.proofs.Math.Seq.{take-suc, take-length, take-append_seam}
-use Rattle.std.proofs.lemmas.List.{append-nil, map-append, take-append-drop}
+use Rattle.std.proofs.Common.{◌≡◌, ℕ, suc, ◌+◌, ◌<◌, List, [], ◌∷◌, ◌++◌, length, map, take, get_or, refl, sym, ap, ◌∙◌, arith, append_assoc, codes}
+use Rattle.std.proofs.Math.Seq.{take-suc, take-length}
+use Rattle.std.proofs.lemmas.List.{append-nil, map-append}
 use Rattle.line_text.specs.Spelling.{spaced, spelled}
 use Rattle.line_text.specs.Writing.{spaced_on}
 use Rattle.line_text.proofs.WritingLemmas.{spaced-cons, spaced_on-append, spelled-append}
@@ -11,13 +11,6 @@ use Rattle.program_text.specs.declared.plan.Command.{Command}
 use Rattle.program_text.specs.Canonical.{opened, closed, tree_words, command_words, canonical_program}
 use Rattle.program_text.specs.Reading.{main_program}
 use Rattle.program_text.proofs.FormLemmas.{main_lines, main_spelled}
-
--- what stood in front of some text still does where more of it was refused
-pub still_in_front : (old text mid new : List ℕ) → mid ≡ old ++ text → take (length mid) new ≡ mid → take (length old) new ≡ old
-still_in_front old text mid new begun kept =
-    let whole : new ≡ old ++ (text ++ drop (length mid) new) =
-    sym (take-append-drop (length mid) new) ∙ ap (λ t. t ++ drop (length mid) new) (kept ∙ begun) ∙ append_assoc old text (drop (length mid) new) in
-    ap (take (length old)) whole ∙ take-append_seam old (text ++ drop (length mid) new)
 
 -- The words of a tree, spelled.
 

@@ -44,7 +44,7 @@ fn write_program(
     cut_back(written, begun, out)
 }
 
-#[tactic(auto, using(crate::proofs::WritingLemmas::still_in_front))]
+#[tactic(auto, using(line_text::proofs::WritingLemmas::still_in_front))]
 fn extend_program(
     names: &Names,
     start: &Tree,
@@ -62,7 +62,7 @@ fn extend_program(
     Ok(())
 }
 
-#[tactic(auto, using(crate::proofs::WritingLemmas::still_in_front))]
+#[tactic(auto, using(line_text::proofs::WritingLemmas::still_in_front))]
 fn extend_start(names: &Names, start: &Tree, out: &mut Vec<u8>) -> Result<(), AllocError>
     requires { labels_below (length names.now) (labelled start.now) ≡ true }
     ensures { Extends result out.old.items out.new.items (spelled ((codes "start" ∷ tree_words names.now (labelled start.now)) ∷ [])) }
@@ -74,7 +74,7 @@ fn extend_start(names: &Names, start: &Tree, out: &mut Vec<u8>) -> Result<(), Al
 }
 
 /// Appends a tree, a node as `(L R):q` with one space.
-#[tactic(auto, using(crate::proofs::WritingLemmas::still_in_front))]
+#[tactic(auto, using(line_text::proofs::WritingLemmas::still_in_front))]
 fn extend_tree(names: &Names, tree: &Tree, out: &mut Vec<u8>) -> Result<(), AllocError>
     requires { labels_below (length names.now) (labelled tree.now) ≡ true }
     ensures { Extends result out.old.items out.new.items (spaced (tree_words names.now (labelled tree.now))) }

@@ -4,7 +4,7 @@ use Rattle.category_text.proofs.WritingLemmas.{where_ok}
 use Rattle.category_text.proofs.writing.write_category.Goals as goal
 
 pub returns-clause-again : goal.returns-clause-again
-returns-clause-again c = where_ok c.extend_from_slice.result (read_again (seen c.args.named.now) c.in_ok-text.ensures.said)
+returns-clause-again c = where_ok c.write_lines-written.result c.cut_back.result c.cut_back.ensures.answer c.write_lines-written.ensures.said (read_again (seen c.args.named.now))
 
 pub returns-clause-short : goal.returns-clause-short
-returns-clause-short c = where_ok c.extend_from_slice.result (short_text (seen c.args.named.now) c.in_ok-text.ensures.said)
+returns-clause-short c = where_ok c.write_lines-written.result c.cut_back.result c.cut_back.ensures.answer c.write_lines-written.ensures.said (short_text (seen c.args.named.now))

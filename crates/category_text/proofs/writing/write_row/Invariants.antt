@@ -1,4 +1,4 @@
-use Rattle.std.proofs.Common.{◌≡◌, ℕ, ◌<◌, ◌++◌, ◌-◌, length}
+use Rattle.std.proofs.Common.{◌≡◌, ℕ, ◌<◌, ◌++◌, ◌-◌, length, take}
 use Rattle.symbol_table.specs.Index.{v_index}
 use Rattle.category_text.specs.Named.{seen}
 use Rattle.category_text.specs.Canonical.{counting}
@@ -8,5 +8,6 @@ use Rattle.category_text.proofs.writing.write_row.Given as goal
 abbrev pub invariant-loop-c : goal.invariant-loop-c
 invariant-loop-c l = record {
   text : l.text.items ++ texts (λ (k : ℕ). group_text (seen l.named) l.group (v_index l.a l.b k)) (counting l.c (length l.named.names - l.c)) ≡ l.fn.text.items ++ texts (λ (k : ℕ). group_text (seen l.named) l.group (v_index l.a l.b k)) (counting 0 (length l.named.names));
+  front : take (length l.fn.text.items) l.text.items ≡ l.fn.text.items;
   numbers : (k : ℕ) → k < l.c → GroupNumber (seen l.named) l.group (v_index l.a l.b k);
 }
