@@ -1,0 +1,100 @@
+//! Amplitudes by key.
+
+ghost use Rattle.std.specs.Prelude.{◌≡◌, ◌<◌, ℕ, List, [], false, length, slice_get, slice_index, ◌==◌, Some, if◌then◌else◌, IfOk, OnOk, OnErr};
+ghost use Rattle.std.specs.Str.{bytes_eq};
+ghost use Rattle.std.specs.List.{filter, AllByRecursion};
+ghost use Rattle.std.specs.Option.{option_copied};
+ghost use Rattle.std.specs.BTreeMap.{insert_entry};
+ghost use Rattle.amp_store.specs.Amplitudes.{AreAmplitudes, amplitude_at, key_cmp};
+
+use crate::entry::{Entry, Key};
+use crate::search::{find, place};
+use ring_laws::StarRing;
+use std::alloc::{AllocError, Global};
+use std::marker::Model;
+use std::rc::Rc;
+
+/// An ordered map from keys to numbers that aren't zero.
+#[derive(Drop)]
+pub struct Amps<R: StarRing> {
+    alloc: Global,
+    entries: Vec<Entry<R>>,
+}
+
+impl<R: StarRing> Model for Amps<R> {
+    ghost use Rattle.std.specs.Prelude.{ℕ, List};
+    ghost use Rattle.amp_store.specs.Amplitudes.{AreAmplitudes};
+    ghost use Rattle.amp_store.specs.Places.{amplitudes_in};
+
+    ghost Value = { List (List ℕ × R.Elem) };
+
+    ghost view = { λ a. amplitudes_in a.entries.items };
+
+    ghost invariant = { λ a. AreAmplitudes R.held (amplitudes_in a.entries.items) };
+}
+
+impl<R: StarRing> Amps<R> {
+    /// No amplitudes. Takes no memory.
+    pub fn new(alloc: Global) -> Amps<R>
+        ensures { result ≡ [] }
+    {
+        Amps {
+            alloc,
+            entries: Vec::new(alloc),
+        }
+    }
+
+    /// No amplitudes, over the same allocator. Takes no memory.
+    pub fn empty(&self) -> Amps<R>
+        ensures { result ≡ [] }
+    {
+        Amps::new(self.alloc)
+    }
+
+    /// How many keys have an amplitude. Keys are in order and no number is zero.
+    pub fn len(&self) -> usize
+        ensures len { result ≡ length self.now }
+        ensures amplitudes { AreAmplitudes R.held self.now }
+    {
+        self.entries.len()
+    }
+
+    /// The keys are in order, and no number is zero.
+    pub fn in_order(&self)
+        ensures { AreAmplitudes R.held self.now }
+    {
+        let _ = &self.entries;
+    }
+
+    /// The number of a key, if it has one.
+    pub fn get(&self, key: &Key) -> Option<&R::Elem>
+        ensures value { option_copied result ≡ amplitude_at self.now key.now.items }
+        ensures nonzero { (v : R.Elem) → amplitude_at self.now key.now.items ≡ Some v → R.held.is_zero v ≡ false }
+    {
+        match find(&self.entries, key) {
+            Ok(at) => Some(&self.entries[at].value),
+            Err(_) => None,
+        }
+    }
+
+    /// The key at a place below the length, in the order of keys, and its number.
+    pub fn entry(&self, place: usize) -> (&Key, &R::Elem)
+        requires { place < length self.now }
+        ensures { slice_get self.now place ≡ Some (result.0.now.items, result.1.now) }
+    {
+        let entry = &self.entries[place];
+        (&entry.key, &entry.value)
+    }
+
+    /// Gives a key this number, in place of one that it had. For want of memory nothing changes.
+    pub fn put(&mut self, key: Key, value: R::Elem) -> Result<(), AllocError>
+        requires { R.held.is_zero value ≡ false }
+        ensures ok { OnOk result (self.new ≡ insert_entry key_cmp self.old key.items value) }
+        ensures puts { OnOk result ((x : List ℕ) → amplitude_at self.new x ≡ (if bytes_eq key.items x then Some value else amplitude_at self.old x)) }
+        ensures err { OnErr result (self.new ≡ self.old) }
+    {
+        let value = Rc::new(self.alloc, value)?;
+        place(&mut self.entries, Entry { key, value })?;
+        Ok(())
+    }
+}
