@@ -4,9 +4,13 @@ use Rattle.std.specs.declared.cmp.Ordering.TheVariants.{Less, Greater}
 use Rattle.amp_store.specs.Amplitudes.{key_cmp}
 use Rattle.amp_store.specs.declared.entry.Entry.{Entry}
 
+-- what an entry says, whoever else has its number
+abbrev pub amplitude_in : {R E : Type 0} → Entry R E → List ℕ × E
+amplitude_in e = (e.key.items, e.value.value)
+
 -- what a list of entries says
 abbrev pub amplitudes_in : {R E : Type 0} → List (Entry R E) → List (List ℕ × E)
-amplitudes_in entries = map (λ e. (e.key.items, e.value.value)) entries
+amplitudes_in entries = map amplitude_in entries
 
 -- the key stands at place i, behind smaller ones
 abbrev pub IsAt : {E : Type 0} → List (List ℕ × E) → List ℕ → ℕ → Type 0

@@ -7,7 +7,7 @@ ghost use Rattle.std.specs.Option.{option_copied};
 ghost use Rattle.std.specs.BTreeMap.{insert_entry};
 ghost use Rattle.amp_store.specs.Amplitudes.{AreAmplitudes, amplitude_at, key_cmp};
 
-use crate::entry::{Entry, Key};
+use crate::entry::{Entry, Key, with_label};
 use crate::search::{find, place};
 use ring_laws::StarRing;
 use std::alloc::{AllocError, Global};
@@ -96,5 +96,26 @@ impl<R: StarRing> Amps<R> {
         let value = Rc::new(self.alloc, value)?;
         place(&mut self.entries, Entry { key, value })?;
         Ok(())
+    }
+
+    /// The same amplitudes again; their numbers are shared.
+    pub fn copy(&self) -> Result<Amps<R>, AllocError>
+        ensures { IfOk result (λ a. a ≡ self.now) }
+    {
+        Ok(Amps {
+            alloc: self.alloc,
+            entries: self.entries.clone()?,
+        })
+    }
+
+    /// The amplitudes whose key has the label at the place, in their order; their numbers are shared.
+    pub fn keep_label(&self, place: usize, label: u8) -> Result<Amps<R>, AllocError>
+        requires { AllByRecursion (λ e. place < length e.0) self.now }
+        ensures { IfOk result (λ a. a ≡ filter (λ e. slice_index e.0 place == label) self.now) }
+    {
+        Ok(Amps {
+            alloc: self.alloc,
+            entries: with_label(self.alloc, &self.entries, place, label)?,
+        })
     }
 }
