@@ -1,3 +1,4 @@
 pub mod CopyLemmas
 pub mod EditLemmas
 pub mod SearchLemmas
+mod Tried

@@ -13,3 +13,6 @@ mod store;
 
 pub use entry::Key;
 pub use store::Amps;
+
+#[cfg(test)]
+mod tests;
