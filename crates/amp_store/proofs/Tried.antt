@@ -1,5 +1,5 @@
 -- Amplitudes at small values: two or three keys of one or two labels, with whole numbers.
-use Rattle.std.proofs.Common.{◌≡◌, ℕ, ℤ, true, false, pos, List, [], ◌∷◌, Option, Some, None, refl}
+use Rattle.std.proofs.Common.{◌≡◌, ℕ, ℤ, true, false, pos, List, [], ◌∷◌, Some, None, refl}
 use Rattle.std.specs.List.{filter}
 use Rattle.std.specs.List.Sorted.{IsStrictlySortedBy}
 use Rattle.std.specs.BTreeMap.{insert_entry}

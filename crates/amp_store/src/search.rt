@@ -13,7 +13,10 @@ use std::alloc::AllocError;
 use std::cmp::Ordering;
 
 /// Puts an entry among entries in order, in place of one with its key.
-pub(crate) fn place<R: StarRing>(entries: &mut Vec<Entry<R>>, entry: Entry<R>) -> Result<(), AllocError>
+pub(crate) fn place<R: StarRing>(
+    entries: &mut Vec<Entry<R>>,
+    entry: Entry<R>,
+) -> Result<(), AllocError>
     requires { IsStrictlySortedBy key_cmp (keys_of (amplitudes_in entries.old.items)) }
     ensures ok { OnOk result (amplitudes_in entries.new.items ≡ insert_entry key_cmp (amplitudes_in entries.old.items) entry.key.items entry.value.value) }
     ensures err { OnErr result (entries.new.items ≡ entries.old.items) }

@@ -28,13 +28,17 @@ fn put(amps: &mut Amps<Whole>, a: u8, b: u8, x: i128) -> Result<(), Fail>
 
 /// Whether the amplitudes are these keys of two labels with these numbers, in this order.
 fn are(amps: &Amps<Whole>, wanted: &[(u8, u8, i128)]) -> bool {
-    let mut same = amps.len() == wanted.len();
+    if amps.len() != wanted.len() {
+        return false;
+    }
     for i in 0..amps.len() {
         let (key, value) = amps.entry(i);
         let (a, b, x) = wanted[i];
-        same = same && key.as_slice() == [a, b] && value.get() == x;
+        if key.as_slice() != [a, b].as_slice() || value.get() != x {
+            return false;
+        }
     }
-    same
+    true
 }
 
 #[test]

@@ -1,4 +1,4 @@
-use Rattle.std.proofs.Common.{◌≡◌, ◌<◌, ◌==◌, ◌∙◌, Bool, length, slice_index, ap, sym, List, ℕ}
+use Rattle.std.proofs.Common.{◌<◌, ◌==◌, ◌∙◌, Bool, length, slice_index, ap, sym, List, ℕ}
 use Rattle.std.proofs.lemmas.Bool.{eq-eqb}
 use Rattle.amp_store.specs.Places.{amplitudes_in}
 use Rattle.amp_store.proofs.CopyLemmas.{told_apart, said_of, kept_one, kept_none}

@@ -1,6 +1,5 @@
-use Rattle.std.proofs.Common.{arith, ◌≡◌, ◌<◌, ◌≤◌, ◌+◌, ◌-◌, ◌/◌, ◌∙◌, sym, ap, length, get_or}
+use Rattle.std.proofs.Common.{arith, ◌<◌, ◌≤◌, ◌+◌, ◌-◌, ◌/◌, ◌∙◌, sym, ap, length}
 use Rattle.std.proofs.lemmas.List.{get_or_default}
-use Rattle.std.specs.declared.cmp.Ordering.TheVariants.{Less, Greater}
 use Rattle.amp_store.specs.Amplitudes.{key_cmp}
 use Rattle.amp_store.specs.declared.entry.Entry.{Entry}
 use Rattle.amp_store.proofs.SearchLemmas.{found_at, gap_at, lower_half, upper_half}

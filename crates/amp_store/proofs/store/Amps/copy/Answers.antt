@@ -1,5 +1,4 @@
-use Rattle.std.proofs.Common.{◌≡◌, ◌∙◌}
-use Rattle.amp_store.specs.Amplitudes.{AreAmplitudes}
+use Rattle.std.proofs.Common.{◌∙◌}
 use Rattle.amp_store.proofs.CopyLemmas.{copies_say}
 use Rattle.amp_store.proofs.store.Amps.copy.Goals as goal
 

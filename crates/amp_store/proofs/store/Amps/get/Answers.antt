@@ -1,8 +1,6 @@
-use Rattle.std.proofs.Common.{arith, ◌<◌, ◌≡◌, ap, sym, ◌∙◌, length, get_or}
+use Rattle.std.proofs.Common.{arith, ◌<◌, ap, ◌∙◌, length}
 use Rattle.std.specs.Prelude.{Some}
-use Rattle.amp_store.specs.Amplitudes.{amplitude_at, AreAmplitudes}
-use Rattle.amp_store.specs.Places.{amplitudes_in, IsAt}
-use Rattle.amp_store.specs.declared.entry.Entry.{Entry}
+use Rattle.amp_store.specs.Amplitudes.{amplitude_at}
 use Rattle.amp_store.proofs.EditLemmas.{nonzero_at}
 use Rattle.amp_store.proofs.SearchLemmas.{at_below, found_value, found_nothing}
 use Rattle.amp_store.proofs.store.Amps.get.Goals as goal

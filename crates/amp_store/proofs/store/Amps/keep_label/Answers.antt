@@ -1,4 +1,4 @@
-use Rattle.std.proofs.Common.{◌≡◌, ◌==◌, subst, sym, slice_index, List, ℕ}
+use Rattle.std.proofs.Common.{◌==◌, subst, sym, slice_index, List, ℕ}
 use Rattle.amp_store.specs.Amplitudes.{AreAmplitudes}
 use Rattle.amp_store.specs.Places.{amplitudes_in}
 use Rattle.amp_store.specs.declared.entry.Entry.{Entry}

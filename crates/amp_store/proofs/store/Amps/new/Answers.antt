@@ -1,6 +1,3 @@
-use Rattle.std.proofs.Common.{rules, ap, sym, subst, ◌∙◌}
-use Rattle.amp_store.specs.Amplitudes.{AreAmplitudes}
-use Rattle.amp_store.specs.Places.{amplitudes_in}
 use Rattle.amp_store.proofs.EditLemmas.{no_amplitudes}
 use Rattle.amp_store.proofs.store.Amps.new.Goals as goal
 

@@ -1,8 +1,8 @@
-use Rattle.std.proofs.Common.{ap, sym, ◌∙◌, ◌≡◌, subst, List, ℕ}
+use Rattle.std.proofs.Common.{ap, ◌∙◌, ◌≡◌}
 use Rattle.std.specs.Prelude.{Some, if◌then◌else◌}
 use Rattle.std.specs.Str.{bytes_eq}
 use Rattle.std.specs.BTreeMap.{insert_entry}
-use Rattle.amp_store.specs.Amplitudes.{AreAmplitudes, amplitude_at, key_cmp}
+use Rattle.amp_store.specs.Amplitudes.{amplitude_at, key_cmp}
 use Rattle.amp_store.specs.Places.{amplitudes_in}
 use Rattle.amp_store.proofs.EditLemmas.{amplitudes_put, found_put}
 use Rattle.amp_store.proofs.store.Amps.put.Goals as goal
