@@ -14,7 +14,8 @@ use std::alloc::{AllocError, Global};
 use std::marker::Model;
 use std::rc::Rc;
 
-/// An ordered map from keys to numbers that aren't zero.
+/// An ordered map from keys to numbers that aren't zero, seen as the list of its keys, each with its number, in the
+/// order of lists of labels.
 #[derive(Drop)]
 pub struct Amps<R: StarRing> {
     alloc: Global,
@@ -98,7 +99,7 @@ impl<R: StarRing> Amps<R> {
         Ok(())
     }
 
-    /// The same amplitudes again; their numbers are shared.
+    /// The same amplitudes again; their numbers are shared. An error comes for want of memory alone.
     pub fn copy(&self) -> Result<Amps<R>, AllocError>
         ensures { IfOk result (λ a. a ≡ self.now) }
     {
@@ -108,7 +109,8 @@ impl<R: StarRing> Amps<R> {
         })
     }
 
-    /// The amplitudes whose key has the label at the place, in their order; their numbers are shared.
+    /// The amplitudes whose key has the label at the place, in their order; their numbers are shared. Places count from
+    /// zero, and each key has to have the place. An error comes for want of memory alone.
     pub fn keep_label(&self, place: usize, label: u8) -> Result<Amps<R>, AllocError>
         requires { AllByRecursion (λ e. place < length e.0) self.now }
         ensures { IfOk result (λ a. a ≡ filter (λ e. slice_index e.0 place == label) self.now) }
