@@ -4,3 +4,4 @@ mod Puts
 mod Reached
 mod JudgeLemmas
 pub mod LawLemmas
+mod Worked

@@ -4,7 +4,7 @@ use Rattle.std.proofs.lemmas.Bool.Decides.{nat_tests}
 use Rattle.std.specs.Option.{option_and_then}
 use Rattle.io_ports.specs.Ports.{Files, Rose}
 use Rattle.anyon_app.specs.declared.stop.Stop.{Stop}
-use Rattle.anyon_app.specs.declared.stop.Stop.TheVariants.{RefusalLine, LimitLine, Unread, OutOfMemory}
+use Rattle.anyon_app.specs.declared.stop.Stop.TheVariants.{RefusalLine, LimitLine, Unread, Memory}
 use Rattle.anyon_app.specs.Replies.{Reply, done, refused, limited}
 use Rattle.anyon_app.specs.Work.{Work, Says, reply_of, Reaches, Names, text_limit, text_work, judged, read_work}
 use Rattle.anyon_app.specs.Stages.{Loads, Worked, Passes, Gives, GivesUp, StopsWith, reply_in}
@@ -14,7 +14,7 @@ pub gives_up : {T : Type 0} (reply : Reply) (stop : Stop) (stated : Result T Rep
 gives_up reply (RefusalLine line) stated is stops = is ∙ ap Err stops
 gives_up reply (LimitLine line) stated is stops = is ∙ ap Err stops
 gives_up reply Unread stated is stops = stops
-gives_up reply OutOfMemory stated is stops = tt
+gives_up reply Memory stated is stops = tt
 
 module _ {S : Type 0} (files : S → Option Files) (faults : S → List ℕ → ℕ) where
   -- a reply that no text decides
@@ -27,7 +27,7 @@ module _ {S : Type 0} (files : S → Option Files) (faults : S → List ℕ → 
   }
 
   -- want of memory says nothing
-  wants_memory : (old : S) (work : Work) → Worked files faults old old work (Err OutOfMemory)
+  wants_memory : (old : S) (work : Work) → Worked files faults old old work (Err Memory)
   wants_memory old work = record {
     answered = λ other given known decides. absurd (cc);
     unread = λ failed. absurd (cc);
@@ -40,7 +40,7 @@ module _ {S : Type 0} (files : S → Option Files) (faults : S → List ℕ → 
   stops_here old (RefusalLine line) stated up next = subst (λ w. Worked files faults old old w (Err (RefusalLine line))) (ap (λ s. judged s next) (sym up)) (says old (refused line.items) (Err (RefusalLine line)) refl (λ failed. cc))
   stops_here old (LimitLine line) stated up next = subst (λ w. Worked files faults old old w (Err (LimitLine line))) (ap (λ s. judged s next) (sym up)) (says old (limited line.items) (Err (LimitLine line)) refl (λ failed. cc))
   stops_here old Unread stated up next = absurd up
-  stops_here old OutOfMemory stated up next = wants_memory old (judged stated next)
+  stops_here old Memory stated up next = wants_memory old (judged stated next)
 
   -- a stage that reads no text goes on with its value
   pub goes_on : {T : Type 0} (old newer : S) (value : T) (stated : Result T Reply) → stated ≡ Ok value → (next : T → Work) (final : Result (Vec ℕ Global) Stop)

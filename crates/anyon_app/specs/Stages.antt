@@ -3,7 +3,7 @@ use Rattle.std.specs.Prelude.{◌≡◌, ◌≤◌, ℕ, List, length, Option, S
 use Rattle.std.specs.declared.alloc.Global.{Global}
 use Rattle.io_ports.specs.Ports.{Files, Rose, WhereTold, IsText, IsLongText}
 use Rattle.anyon_app.specs.declared.stop.Stop.{Stop}
-use Rattle.anyon_app.specs.declared.stop.Stop.TheVariants.{RefusalLine, LimitLine, Unread, OutOfMemory}
+use Rattle.anyon_app.specs.declared.stop.Stop.TheVariants.{RefusalLine, LimitLine, Unread, Memory}
 use Rattle.anyon_app.specs.Replies.{Reply, done, refused, limited}
 use Rattle.anyon_app.specs.Work.{Work, reply_of, Reaches, Names, Decides, text_limit}
 
@@ -12,7 +12,7 @@ abbrev pub stop_reply : Stop → Option Reply
 stop_reply (RefusalLine line) = Some (refused line.items)
 stop_reply (LimitLine line) = Some (limited line.items)
 stop_reply Unread = None
-stop_reply OutOfMemory = None
+stop_reply Memory = None
 
 -- the reply that a result gives, if it gives one
 abbrev pub reply_in : Result (Vec ℕ Global) Stop → Option Reply
@@ -24,14 +24,14 @@ abbrev pub StopsWith : Reply → Stop → Type 0
 StopsWith reply (RefusalLine line) = reply ≡ refused line.items
 StopsWith reply (LimitLine line) = reply ≡ limited line.items
 StopsWith reply Unread = ⊥
-StopsWith reply OutOfMemory = Unit {0}
+StopsWith reply Memory = Unit {0}
 
 -- what is stated is the reply of the stop, unless memory was wanted
 abbrev pub GivesUp : {T : Type 0} → Stop → Result T Reply → Type 0
 GivesUp (RefusalLine line) stated = stated ≡ Err (refused line.items)
 GivesUp (LimitLine line) stated = stated ≡ Err (limited line.items)
 GivesUp Unread stated = ⊥
-GivesUp OutOfMemory stated = Unit {0}
+GivesUp Memory stated = Unit {0}
 
 -- A stage that reads no text: its result is what is stated, unless memory was wanted.
 abbrev pub Gives : {V T : Type 0} → (V → T) → Result V Stop → Result T Reply → Type 0

@@ -31,6 +31,6 @@ fn category(alloc: Global, text: &[u8]) -> Result<Named, Stop>
     match read_category(alloc, text) {
         Ok(named) => Ok(named),
         Err(CategoryFault::At { line, cause }) => Err(category_line(alloc, line, cause)),
-        Err(CategoryFault::Memory) => Err(Stop::OutOfMemory),
+        Err(CategoryFault::Memory) => Err(Stop::Memory),
     }
 }

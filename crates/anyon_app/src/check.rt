@@ -32,6 +32,6 @@ fn accepted(alloc: Global, admitted: &Admitted) -> Result<Vec<u8>, Stop>
     let count = count_digits.format(admitted.category.rules().count());
     match line(alloc, "accepted", &["root", root, "labels", count]) {
         Ok(line) => Ok(line),
-        Err(_) => Err(Stop::OutOfMemory),
+        Err(_) => Err(Stop::Memory),
     }
 }

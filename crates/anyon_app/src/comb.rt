@@ -75,7 +75,7 @@ fn program(alloc: Global, admitted: &Admitted, text: &[u8]) -> Result<Plan, Stop
     match read_comb_program(alloc, &admitted.names, admitted.category.rules(), text) {
         Ok(Some(plan)) => Ok(plan),
         Ok(None) => Err(not_built(alloc, Kind::Program)),
-        Err(_) => Err(Stop::OutOfMemory),
+        Err(_) => Err(Stop::Memory),
     }
 }
 
@@ -87,10 +87,10 @@ fn rows(alloc: Global, admitted: &Admitted, plan: &Plan) -> Result<Vec<u8>, Stop
     let rows = match comb_run(alloc, &admitted.category, plan) {
         Ok(rows) => rows,
         Err(RunFault::Stop(stop)) => return Err(stop_line(alloc, stop)),
-        Err(RunFault::Memory) => return Err(Stop::OutOfMemory),
+        Err(RunFault::Memory) => return Err(Stop::Memory),
     };
     match report(alloc, &admitted.names, &rows) {
         Ok(report) => Ok(report),
-        Err(_) => Err(Stop::OutOfMemory),
+        Err(_) => Err(Stop::Memory),
     }
 }

@@ -28,6 +28,6 @@ fn canonical_text(alloc: Global, named: &Named) -> Result<Vec<u8>, Stop>
     let mut text = Vec::new(alloc);
     match write_category(alloc, named, &mut text) {
         Ok(()) => Ok(text),
-        Err(_) => Err(Stop::OutOfMemory),
+        Err(_) => Err(Stop::Memory),
     }
 }

@@ -32,6 +32,6 @@ pub fn judge(alloc: Global, named: Named) -> Result<Admitted, Stop>
         Ok(category) => Ok(Admitted { names, category }),
         Err(GateFault::Rules(fault)) => Err(rules_line(alloc, &names, fault)),
         Err(GateFault::Law(event)) => Err(event_line(alloc, &names, &event)),
-        Err(GateFault::Memory) => Err(Stop::OutOfMemory),
+        Err(GateFault::Memory) => Err(Stop::Memory),
     }
 }

@@ -72,11 +72,11 @@ pub fn event_line(alloc: Global, names: &Names, event: &Event) -> Stop
     match event.kind {
         EventKind::Fails => match event_text(alloc, b"refused", names, event) {
             Ok(line) => Stop::RefusalLine(line),
-            Err(_) => Stop::OutOfMemory,
+            Err(_) => Stop::Memory,
         },
         EventKind::Overflow => match event_text(alloc, b"limit overflow", names, event) {
             Ok(line) => Stop::LimitLine(line),
-            Err(_) => Stop::OutOfMemory,
+            Err(_) => Stop::Memory,
         },
     }
 }

@@ -16,7 +16,7 @@ pub enum Stop {
     /// A read of a text failed.
     Unread,
     /// There was no memory.
-    OutOfMemory,
+    Memory,
 }
 
 /// Stops with the line of a refusal, whose words after the first are these.
@@ -25,7 +25,7 @@ pub fn refusal(alloc: Global, words: &[&str]) -> Stop
 {
     match line(alloc, "refused", words) {
         Ok(line) => Stop::RefusalLine(line),
-        Err(_) => Stop::OutOfMemory,
+        Err(_) => Stop::Memory,
     }
 }
 
@@ -35,6 +35,6 @@ pub fn limit(alloc: Global, words: &[&str]) -> Stop
 {
     match line(alloc, "limit", words) {
         Ok(line) => Stop::LimitLine(line),
-        Err(_) => Stop::OutOfMemory,
+        Err(_) => Stop::Memory,
     }
 }

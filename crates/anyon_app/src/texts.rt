@@ -46,6 +46,6 @@ fn loaded<S: Shelf>(alloc: Global, shelf: &mut S, kind: Kind, name: &str) -> Res
         Ok(text) => Ok(text),
         Err(LoadFault::TooLong) => Err(too_long(alloc, kind)),
         Err(LoadFault::Failed) => Err(Stop::Unread),
-        Err(LoadFault::Memory) => Err(Stop::OutOfMemory),
+        Err(LoadFault::Memory) => Err(Stop::Memory),
     }
 }

@@ -68,7 +68,7 @@ pub fn anyon<S: Shelf, W: Sink>(
         Err(Stop::RefusalLine(line)) => put(sink, Status::Refused, &line),
         Err(Stop::LimitLine(line)) => put(sink, Status::Limit, &line),
         Err(Stop::Unread) => Status::ReadFault,
-        Err(Stop::OutOfMemory) => Status::NoMemory,
+        Err(Stop::Memory) => Status::NoMemory,
     }
 }
 

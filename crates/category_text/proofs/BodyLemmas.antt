@@ -12,7 +12,7 @@ use Rattle.category_text.specs.declared.fault.CategoryFault.{CategoryFault}
 use Rattle.category_text.specs.declared.fault.CategoryFault.TheVariants.{At, Memory}
 use Rattle.category_text.specs.declared.fault.Refused.{Refused}
 use Rattle.category_text.specs.declared.fault.Stop.{Stop}
-use Rattle.category_text.specs.declared.fault.Stop.TheVariants.{Cause, NoMemory}
+use Rattle.category_text.specs.declared.fault.Stop.TheVariants.{Cause}
 use Rattle.symbol_table.specs.declared.index.VIndex.{VIndex}
 use Rattle.fusion_rules.specs.Fusion.{Fusion as Rules}
 use Rattle.category_text.specs.Answers.{Fails, Says, Tells, body_said, fault_at, fusing, lined_at, may, rules_given, told_at}
@@ -86,7 +86,7 @@ tells_ok n (Err cause) u next stated e told = absurd (cc)
 
 pub says_ok : (n : ℕ) (r : Result Unit Stop) (u : Unit) (next : SoFar) (stated : Result SoFar CategoryCause) → ◌≡◌ {A = Result Unit CategoryFault} (Ok u) (told_at n r) → Says (λ _. next) r stated → stated ≡ Ok next
 says_ok n (Ok v) u next stated e told = told
-says_ok n (Err NoMemory) u next stated e told = absurd (cc)
+says_ok n (Err Stop.Memory) u next stated e told = absurd (cc)
 says_ok n (Err (Cause cause)) u next stated e told = absurd (cc)
 
 module _ (n : ℕ) (text : List ℕ) (more : List Found) where
@@ -102,7 +102,7 @@ module _ (n : ℕ) (text : List ℕ) (more : List Found) where
   pub symbol_fails : (said : NamedSymbols) (kind : Kind) (r : Result Unit Stop) (next : SoFar) (fault : CategoryFault) → ◌≡◌ {A = Result Unit CategoryFault} (Err fault) (told_at n r) → Says (λ _. next) r (symbol_of kind said (words_of text)) → line_kind (words_of text) ≡ Ok (OfSymbol kind)
       → Fails fault (body_said (late said) (Counted n text ∷ more))
   symbol_fails said kind (Ok u) next fault e told is = absurd (cc)
-  symbol_fails said kind (Err NoMemory) next fault e told is = let same : Memory ≡ fault = cc in subst (λ f. Fails f (body_said (late said) (Counted n text ∷ more))) same tt
+  symbol_fails said kind (Err Stop.Memory) next fault e told is = let same : Memory ≡ fault = cc in subst (λ f. Fails f (body_said (late said) (Counted n text ∷ more))) same tt
   symbol_fails said kind (Err (Cause cause)) next fault e told is = let same : At n cause ≡ fault = cc in subst (λ f. Fails f (body_said (late said) (Counted n text ∷ more))) same (symbol_stops n text more (late said) cause kind is told)
 
 -- The triple of a fuse line.

@@ -14,7 +14,7 @@ use Rattle.line_text.specs.Text.{has_word}
 use Rattle.category_text.specs.Reading.{names_in, labels_of}
 use Rattle.category_text.specs.Answers.{LineFails, add_to, kept, judged_of, kept_of}
 use Rattle.category_text.specs.declared.fault.Stop.{Stop}
-use Rattle.category_text.specs.declared.fault.Stop.TheVariants.{Cause, NoMemory}
+use Rattle.category_text.specs.declared.fault.Stop.TheVariants.{Cause}
 use Rattle.category_text.specs.declared.fault.CategoryCause.TheVariants.{Labels}
 
 -- what `add` says of a name
@@ -148,7 +148,7 @@ none_in (w ∷ ws) all = rw all refl
 
 pub stops : (stop : Stop) (names : List (List ℕ)) (words : List (List ℕ)) (place : ℕ) (text : List ℕ) → true ≡ has_word words 0 (codes "labels") → Some text ≡ slice_get words place → LineFails stop (kept_of names text)
     → all_names (drop place words) ≡ all_names (drop 1 words) → LineFails stop (labels_of words)
-stops NoMemory names words place text first at is all = tt
+stops Stop.Memory names words place text first at is all = tt
 stops (Cause cause) names [] place text first at is all = absurd (cc)
 stops (Cause cause) names (w ∷ ws) place text first at is all = go (is_name text) refl is
   where

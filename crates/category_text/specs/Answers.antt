@@ -14,7 +14,7 @@ use Rattle.category_text.specs.declared.fault.CategoryFault.{CategoryFault}
 use Rattle.category_text.specs.declared.fault.CategoryFault.TheVariants.{At, Memory}
 use Rattle.category_text.specs.declared.fault.Refused.{Refused}
 use Rattle.category_text.specs.declared.fault.Stop.{Stop}
-use Rattle.category_text.specs.declared.fault.Stop.TheVariants.{Cause, NoMemory}
+use Rattle.category_text.specs.declared.fault.Stop.TheVariants.{Cause}
 use Rattle.category_text.specs.declared.kind.Symbol.{Symbol}
 use Rattle.category_text.specs.declared.kind.Symbol.TheVariants.{OfF, OfR, OfW, OfV}
 use Rattle.category_text.specs.declared.symbol_line.SymbolLine.{SymbolLine}
@@ -29,7 +29,7 @@ Tells view (Err cause) stated = stated ≡ Err cause
 
 -- The same of a line that is kept in memory.
 abbrev pub LineFails : {Y : Type 0} → Stop → Result Y CategoryCause → Type 0
-LineFails NoMemory stated = Unit {0}
+LineFails Stop.Memory stated = Unit {0}
 LineFails (Cause cause) stated = stated ≡ Err cause
 
 abbrev pub Says : {X Y : Type 0} → (X → Y) → Result X Stop → Result Y CategoryCause → Type 0
@@ -62,7 +62,7 @@ lined_at line (Err cause) = Err (record { line = line; cause = cause })
 
 abbrev pub told_at : {X : Type 0} → ℕ → Result X Stop → Result X CategoryFault
 told_at line (Ok x) = Ok x
-told_at line (Err NoMemory) = Err Memory
+told_at line (Err Stop.Memory) = Err Memory
 told_at line (Err (Cause cause)) = Err (At line cause)
 
 -- What the lines so far said.

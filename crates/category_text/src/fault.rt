@@ -1,7 +1,8 @@
 ghost use Rattle.std.specs.Prelude.{◌≡◌};
 ghost use Rattle.category_text.specs.Answers.{told_at, lined_at};
 ghost use Rattle.category_text.specs.declared.fault.CategoryFault.TheVariants.{At};
-ghost use Rattle.category_text.specs.declared.fault.Stop.TheVariants.{Cause, NoMemory};
+ghost use Rattle.category_text.specs.declared.fault.Stop.{Stop};
+ghost use Rattle.category_text.specs.declared.fault.Stop.TheVariants.{Cause};
 
 use cyclo_text::NumberWord;
 use line_text::{LineCause, LineFault};
@@ -60,7 +61,7 @@ pub(crate) struct Refused {
 #[derive(Clone, Copy, Debug, PartialEq, Eq)]
 pub(crate) enum Stop {
     Cause(CategoryCause),
-    NoMemory,
+    Memory,
 }
 
 impl From<LineFault> for Refused {
@@ -96,10 +97,10 @@ impl From<CategoryCause> for Stop {
 }
 
 impl From<AllocError> for Stop {
-    ghost from_gives = { λ a e. e ≡ NoMemory };
+    ghost from_gives = { λ a e. e ≡ Stop.Memory };
 
     fn from(_error: AllocError) -> Stop {
-        Stop::NoMemory
+        Stop::Memory
     }
 }
 
@@ -120,6 +121,6 @@ pub(crate) fn stop_on_line<T>(line: u32, read: Result<T, Stop>) -> Result<T, Cat
     match read {
         Ok(value) => Ok(value),
         Err(Stop::Cause(cause)) => Err(CategoryFault::At { line, cause }),
-        Err(Stop::NoMemory) => Err(CategoryFault::Memory),
+        Err(Stop::Memory) => Err(CategoryFault::Memory),
     }
 }

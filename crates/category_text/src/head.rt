@@ -8,6 +8,7 @@ use crate::words::has_two_words;
 use cyclo_core::Cyclo;
 use fusion_rules::{LABEL_LIMIT, NameFault, Names};
 use line_text::{Line, Lines, plain_number};
+use poly_core::ROOT_LIMIT;
 use std::alloc::Global;
 
 /// Reads the first three lines.
@@ -75,7 +76,7 @@ fn accepted(root: Option<u32>) -> Result<Cyclo, CategoryCause>
     let Some(root) = root else {
         return Err(CategoryCause::Root);
     };
-    if root > 60 {
+    if root > ROOT_LIMIT as u32 {
         return Err(CategoryCause::Root);
     }
     match Cyclo::new(root as u8) {
@@ -112,7 +113,7 @@ fn keep(names: &mut Names, word: &[u8]) -> Result<(), Stop>
         Err(NameFault::Full) => Ok(()),
         Err(NameFault::Repeated) => Ok(()),
         Err(NameFault::Spelling) => Err(Stop::Cause(CategoryCause::Labels)),
-        Err(NameFault::Memory) => Err(Stop::NoMemory),
+        Err(NameFault::Memory) => Err(Stop::Memory),
     }
 }
 

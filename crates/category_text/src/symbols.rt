@@ -6,7 +6,6 @@ ghost use Rattle.symbol_table.specs.Index.{AreThreeLabels};
 ghost use Rattle.symbol_table.specs.Draft.{Sets, given};
 ghost use Rattle.category_text.specs.Named.{named_draft, symbol_fault, with_symbol};
 ghost use Rattle.category_text.specs.Reading.{label, labels_at, kind_of, may_set, number_place, numbered, symbol_at, symbol_of, with_value};
-ghost use Rattle.category_text.specs.declared.fault.Stop.TheVariants.{NoMemory};
 ghost use Rattle.category_text.specs.Answers.{Says, SymbolBelow, Tells, setting};
 
 use crate::fault::{CategoryCause, Stop};
@@ -47,7 +46,7 @@ pub(crate) fn read_symbol(
 ) -> Result<(), Stop>
     requires { length names.now ≡ draft.old.rules.count }
     ensures said { Says (λ _. setting names.now draft.new) result (symbol_of kind (named_draft names.now draft.old) (words_of line.now.text.now)) }
-    ensures memory { result ≡ Err NoMemory → IsOk (symbol_of kind (named_draft names.now draft.old) (words_of line.now.text.now)) }
+    ensures memory { result ≡ Err Stop.Memory → IsOk (symbol_of kind (named_draft names.now draft.old) (words_of line.now.text.now)) }
     ensures rules { draft.new.rules ≡ draft.old.rules }
 {
     let (at, value) = read_value(names, line, kind, draft)?;

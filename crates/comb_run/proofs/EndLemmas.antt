@@ -12,7 +12,7 @@ use Rattle.program_text.specs.declared.plan.Command.TheVariants.{Braid, Raise, M
 use Rattle.word_runs.specs.Told.{IsGap}
 use Rattle.word_runs.specs.Runs.{Live, ◌>>>◌, fitting, run_of, Stops}
 use Rattle.word_runs.specs.declared.fault.StepFault.{StepFault}
-use Rattle.word_runs.specs.declared.fault.StepFault.TheVariants.{TooLarge, NoRoom}
+use Rattle.word_runs.specs.declared.fault.StepFault.TheVariants.{TooLarge}
 use Rattle.word_runs.specs.declared.fault.RunFault.{RunFault}
 use Rattle.word_runs.specs.declared.fault.RunFault.TheVariants.{Stop, Memory}
 use Rattle.word_runs.specs.declared.fault.RunStop.{RunStop}
@@ -56,7 +56,7 @@ module _ {E : Type 0} (c : Symbols E) (n : ℕ) where
     rest_late h = weighed ∙ ap (fitting (turn + length ls)) h
 
 -- a step that stops in a turn stops the run there
-pub stops_there : {A : Type 0} (fault : StepFault) (told : RunFault) (turn : ℕ) (stated : Result A RunStop) → (fault ≡ TooLarge → told ≡ Stop (Overflow turn)) → (fault ≡ NoRoom → told ≡ Memory)
+pub stops_there : {A : Type 0} (fault : StepFault) (told : RunFault) (turn : ℕ) (stated : Result A RunStop) → (fault ≡ TooLarge → told ≡ Stop (Overflow turn)) → (fault ≡ StepFault.Memory → told ≡ Memory)
     → (fault ≡ TooLarge → stated ≡ Err (Overflow turn)) → Stops told stated
 stops_there TooLarge told turn stated large room is = rw (large refl) (is refl)
-stops_there NoRoom told turn stated large room is = rw (room refl) tt
+stops_there StepFault.Memory told turn stated large room is = rw (room refl) tt

@@ -20,7 +20,7 @@ use Rattle.program_text.specs.declared.letter.Letter.TheVariants.{Crossing, Char
 use Rattle.word_runs.specs.Runs.{Live, live_after, both, split_by, joined, outcomes_of, ◌>>>◌, fitting, turn_of, run_of, start_word}
 use Rattle.word_runs.specs.declared.engine.Step.TheVariants.{Exchange}
 use Rattle.word_runs.specs.declared.fault.RunStop.{RunStop}
-use Rattle.word_runs.proofs.EachLemmas.{some_same, ok_same, ok_first}
+use Rattle.word_runs.proofs.EachLemmas.{ok_same, ok_first}
 use Rattle.word_runs.proofs.StepLemmas.{step_of_ok, fitted}
 use Rattle.program_text.specs.Form.{is_gap, is_measured_braid}
 use Rattle.comb_laws.specs.Paths.{Path, Vector, labels, paths}
@@ -160,14 +160,14 @@ module _ {E : Type 0} (c : Symbols E) (laws : RingLaws c.ring c.held) where
   exchanged : (strands : List ℕ) (k : ℕ) (sign : Sign) (v : Vector E) (mid : List (Live (State E))) (b : Bool)
       → both (live_after (record { word = 0 ∷ []; state = (strands, v) }) (if b then Some (swapped strands k, braided c strands sign k v) else None)) (Some []) ≡ Some mid
       → mid ≡ one_live (swapped strands k) (braided c strands sign k v)
-  exchanged strands k sign v mid true e = sym (some_same (one_live (swapped strands k) (braided c strands sign k v)) mid e)
+  exchanged strands k sign v mid true e = sym (some_inj (one_live (swapped strands k) (braided c strands sign k v)) mid e)
   exchanged strands k sign v mid false e = absurd (cc)
 
   -- after the measurement there are the words of its charges
   measured : (strands : List ℕ) (k : ℕ) (v : Vector E) (mid : List (Live (State E))) (b : Bool)
       → joined (split_by 0 (0 ∷ []) (if b then Some (filter (is_part c) (map (part_of c k (strands, v)) (labels c.count))) else None)) (Some []) ≡ Some mid
       → mid ≡ outcomes strands k v (labels c.count)
-  measured strands k v mid true e = sym (some_same (outcomes strands k v (labels c.count) ++ []) mid e) ∙ append-nil (outcomes strands k v (labels c.count))
+  measured strands k v mid true e = sym (some_inj (outcomes strands k v (labels c.count) ++ []) mid e) ∙ append-nil (outcomes strands k v (labels c.count))
   measured strands k v mid false e = absurd (cc)
 
   -- what is left of a run gives the rows of what is left

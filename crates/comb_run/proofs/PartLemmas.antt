@@ -3,6 +3,7 @@ use Rattle.std.proofs.Common.{◌≡◌, ℕ, zero, suc, ◌+◌, ◌<◌, Bool,
 use Rattle.std.specs.Prelude.{if◌then◌else◌, ◌&&◌, IsTrue, Result, Err}
 use Rattle.std.specs.List.{list_all, filter}
 use Rattle.std.proofs.lemmas.List.{map-append, append-nil}
+use Rattle.std.proofs.lemmas.List.Elements.{filter-append}
 use Rattle.std.proofs.lemmas.List.Folds.{list_all-append}
 use Rattle.std.proofs.lemmas.Bool.Decides.{leb_tells}
 use Rattle.arrayvec.specs.ArrayVec.{ArrayVec}
@@ -52,14 +53,6 @@ module _ {E : Type 0} (c : Symbols E) (laws : RingLaws c.ring c.held) (strands :
         ∙ (map-append (λ (p : Part (CombState R E)). (p.label, state_of c.ring p.state)) old (record { label = q; state = s } ∷ [])
         ∙ rw on (ap (λ p. parts_of (state_of c.ring) old ++ p ∷ []) is))
 
-filter_pushed : {A : Type 0} (p : A → Bool) (xs : List A) (x : A) → filter p (xs ++ x ∷ []) ≡ filter p xs ++ (if p x then x ∷ [] else [])
-filter_pushed p [] x = refl
-filter_pushed {A} p (y ∷ xs) x = pick (p y) (filter_pushed p xs x)
-  where
-    pick : (b : Bool) → filter p (xs ++ x ∷ []) ≡ filter p xs ++ (if p x then x ∷ [] else []) → (if b then y ∷ filter p (xs ++ x ∷ []) else filter p (xs ++ x ∷ [])) ≡ (if b then y ∷ filter p xs else filter p xs) ++ (if p x then x ∷ [] else [])
-    pick true e = ap (λ l. y ∷ l) e
-    pick false e = e
-
 module _ {E : Type 0} (c : Symbols E) (k : ℕ) (s : State E) where
   -- the parts of the labels below n
   abbrev pub parts_below : ℕ → List (ℕ × State E)
@@ -69,7 +62,7 @@ module _ {E : Type 0} (c : Symbols E) (k : ℕ) (s : State E) where
   parts_more n old new made before =
       let next : n + 1 ≡ suc n = omega arith in
       made ∙ (ap (λ l. l ++ (if is_part c (part_of c k s n) then part_of c k s n ∷ [] else [])) before
-      ∙ (sym (filter_pushed (is_part c) (map (part_of c k s) (labels n)) (part_of c k s n))
+      ∙ (sym (filter-append (is_part c) (map (part_of c k s) (labels n)) (part_of c k s n ∷ []))
       ∙ (ap (filter (is_part c)) (sym (map-append (part_of c k s) (labels n) (n ∷ []))) ∙ ap parts_below (sym next))))
 
   abbrev pub all_fit : Bool
@@ -107,7 +100,3 @@ labels_fail test (suc n) q low fails =
 
 pub not_true : (b : Bool) → b ≡ false → IsTrue b → ⊥
 not_true b off on = cc
-
--- one answer has one error
-pub err_same : {T E : Type 0} (r : Result T E) (f g : E) → r ≡ Err f → r ≡ Err g → f ≡ g
-err_same r f g a b = cc

@@ -5,6 +5,7 @@ use Rattle.ring_laws.specs.Stated.{◌>>=◌, steps_over}
 use Rattle.symbol_table.specs.Symbols.{Symbols}
 use Rattle.word_runs.specs.Lives.{live_of, lives_of}
 use Rattle.word_runs.specs.declared.live.LiveWord.{LiveWord}
+use Rattle.word_runs.proofs.EachLemmas.{next_item}
 use Rattle.comb_run.specs.Evaluated.{row_step}
 use Rattle.comb_run.specs.States.{state_of, rows_of}
 use Rattle.comb_run.specs.declared.state.CombState.{CombState}
@@ -16,7 +17,7 @@ rows_pushed {R} {E} old new row word made is =
     ap rows_of made ∙ (map-append (λ (r : Row R E). (r.word.items, r.weight)) old (row ∷ []) ∙ (λ j. rows_of old ++ (is j, row.weight) ∷ []))
 
 next_word : {R E : Type 0} (ws : List (LiveWord (CombState R E))) (i : ℕ) (w : LiveWord (CombState R E)) → w ≡ get_or ws i w → i < length ws → drop i ws ≡ w ∷ drop (i + 1) ws
-next_word ws i w is low = let next : suc i ≡ i + 1 = omega arith in drop-cons ws i w low ∙ (λ j. sym is j ∷ drop (next j) ws)
+next_word ws i w is low = next_item ws i w low ∙ ap (λ v. v ∷ drop (i + 1) ws) (sym is)
 
 module _ {R E : Type 0} (c : Symbols E) (ws : List (LiveWord (CombState R E))) (i : ℕ) (w : LiveWord (CombState R E)) (is : w ≡ get_or ws i w) (low : i < length ws) (rows : List (List ℕ × E)) (all : Option (List (List ℕ × E)))
     (before : steps_over (row_step c) (lives_of (state_of c.ring) (drop i ws)) rows ≡ all) where

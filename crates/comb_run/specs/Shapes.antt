@@ -1,15 +1,11 @@
 -- On combs a state has no shape, and every gap is a pair.
 use Rattle.std.proofs.Common.{◌≡◌, ℕ, ◌<◌, true, List, [], ◌∷◌, refl, arith}
 use Rattle.std.specs.Prelude.{◌&&◌, nat_lt}
-use Rattle.std.specs.List.{AllByRecursion}
 use Rattle.std.proofs.lemmas.Bool.Decides.{nat_tests}
 use Rattle.symbol_table.specs.Symbols.{Symbols}
 use Rattle.word_runs.specs.Told.{AreShapes}
+use Rattle.word_runs.proofs.EachLemmas.{all_const}
 use Rattle.comb_run.specs.Evaluated.{State, comb_told}
-
-no_shapes : {E : Type 0} (ps : List (ℕ × State E)) (t : Unit {0}) → AllByRecursion (λ part. tt ≡ t) ps
-no_shapes [] t = tt
-no_shapes (p ∷ ps) t = (refl, no_shapes ps t)
 
 both_yes : (k n : ℕ) → 0 < k → k < n → (nat_lt 0 k && nat_lt k n) ≡ true
 both_yes k n low high = rw (first, second) refl
@@ -23,7 +19,7 @@ both_yes k n low high = rw (first, second) refl
 pub comb_shapes : {E : Type 0} (c : Symbols E) (n : ℕ) → AreShapes (comb_told c n)
 comb_shapes c n = record {
   steps = λ step s s' h. refl;
-  parts = λ k s ps h. no_shapes ps tt;
+  parts = λ k s ps h. all_const (λ part. tt ≡ tt) ps (λ part. refl);
   gaps = λ k t gap. tt;
   pair = λ k t gap. both_yes k n gap.low gap.high;
 }

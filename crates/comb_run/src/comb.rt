@@ -79,7 +79,8 @@ fn comb_rows<R: StarRing>(
 /// The program has the one site with all strands, an admissible left-combed start of 2 to 16 strands, and at most
 /// 4,096 commands: braids, and one measurement behind them. `Overflow` comes exactly at the turn of the first item
 /// that doesn't fit: turn 0 evaluates the total, each command is a turn, and the turn after the last one evaluates
-/// the weights of the outcomes. The conventions are those of Kitaev 2006, Appendix E.
+/// the weights of the outcomes. `Branches` and `Wide` come exactly where the words or the amplitudes pass the limits
+/// of `word_runs`. The conventions are those of Kitaev 2006, Appendix E.
 pub fn comb_run<R: StarRing>(
     alloc: Global,
     category: &Category<R>,

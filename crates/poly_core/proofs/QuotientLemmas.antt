@@ -9,6 +9,7 @@ use Rattle.poly_core.specs.Cyclotomic.IsCyclotomic.{quotient}
 use Rattle.poly_core.specs.Rho.{is_accepted, polynomial}
 use Rattle.poly_core.specs.Roots.{root_at, is_listed}
 use Rattle.poly_core.specs.Table.{all_below, all_below_at, both}
+use Rattle.poly_core.specs.declared.limits.TheConstants.{ROOT_LIMIT}
 use Rattle.poly_core.proofs.RhoLemmas.{accepted_is, accepted_small}
 
 abbrev same_list : List ℤ → List ℤ → Bool
@@ -43,7 +44,7 @@ abbrev passes_if : Bool → ℕ → Bool
 passes_if true n = nat_lt 0 n && (all_below n (divisor_listed n) && is_quotient n)
 passes_if false n = true
 
-table_passes : IsTrue (all_below 61 (λ n. passes_if (is_listed n) n))
+table_passes : IsTrue (all_below (suc ROOT_LIMIT) (λ n. passes_if (is_listed n) n))
 unfolding is_listed polynomial root_at
 table_passes = refl
 
@@ -59,7 +60,7 @@ listed_passes : (n : ℕ) → IsTrue (is_listed n) → IsTrue (nat_lt 0 n && (al
 listed_passes n h =
     let accepted : IsTrue (is_accepted n) = subst (λ (b : Bool). IsTrue b) (sym (accepted_is n)) h in
     let small = accepted_small n accepted in
-    subst (λ (b : Bool). IsTrue (passes_if b n)) h (all_below_at 61 (λ k. passes_if (is_listed k) k) table_passes n (omega arith))
+    subst (λ (b : Bool). IsTrue (passes_if b n)) h (all_below_at (suc ROOT_LIMIT) (λ k. passes_if (is_listed k) k) table_passes n (omega arith))
 
 cyclotomic_below : (m n : ℕ) → n < m → IsTrue (is_listed n) → IsCyclotomic n (polynomial n)
 cyclotomic_below zero n lt h = absurd (omega arith)

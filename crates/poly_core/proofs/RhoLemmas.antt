@@ -1,5 +1,5 @@
 -- What is known of each accepted root.
-use Rattle.std.proofs.Common.{◌≡◌, ℕ, ◌<◌, ◌≤◌, Bool, true, false, ◌&&◌, cond, eqb, leb, List, [], ◌∷◌, refl, sym, ap, ◌∙◌, subst, arith, inl, inr}
+use Rattle.std.proofs.Common.{◌≡◌, ℕ, suc, ◌<◌, ◌≤◌, Bool, true, false, ◌&&◌, cond, eqb, leb, List, [], ◌∷◌, refl, sym, ap, ◌∙◌, subst, arith, inl, inr}
 use Rattle.std.specs.Prelude.{IsTrue, unsigned_abs, nat_lt, nat_le}
 use Rattle.std.proofs.lemmas.Bool.{cases_lt}
 use Rattle.std.proofs.lemmas.Bool.Decides.{nat_tests}
@@ -8,6 +8,7 @@ use Rattle.poly_core.specs.Good.{Root}
 use Rattle.poly_core.specs.Roots.{roots, root_of, root_at, first_root, listed_in, is_listed, IsGood-root_at}
 use Rattle.poly_core.specs.Rho.{is_accepted, degree, order, rho}
 use Rattle.poly_core.specs.Table.{all_below, all_below_at, both}
+use Rattle.poly_core.specs.declared.limits.TheConstants.{ROOT_LIMIT, DEGREE_LIMIT}
 
 abbrev same_bool : Bool → Bool → Bool
 same_bool true b = b
@@ -20,9 +21,9 @@ same_bool_is true false h = cc
 same_bool_is false true h = cc
 same_bool_is false false h = refl
 
-up_to_sixty : IsTrue (all_below 61 (λ n. same_bool (is_accepted n) (is_listed n)))
+up_to_the_limit : IsTrue (all_below (suc ROOT_LIMIT) (λ n. same_bool (is_accepted n) (is_listed n)))
 unfolding is_accepted is_listed totient gcd
-up_to_sixty = refl
+up_to_the_limit = refl
 
 abbrev all_at_most : ℕ → List Root → Bool
 all_at_most k [] = true
@@ -36,22 +37,22 @@ none_above n k lt (r ∷ rs) h =
     let other : eqb r.order n ≡ false = grind (arith, nat_tests) in
     ap (λ b. cond b true (listed_in n rs)) other ∙ none_above n k lt rs parts.1
 
-listed_above : (n : ℕ) → 60 < n → is_listed n ≡ false
+listed_above : (n : ℕ) → ROOT_LIMIT < n → is_listed n ≡ false
 unfolding is_listed
-listed_above n lt = none_above n 60 lt roots refl
+listed_above n lt = none_above n ROOT_LIMIT lt roots refl
 
-accepted_above : (n : ℕ) → 60 < n → is_accepted n ≡ false
+accepted_above : (n : ℕ) → ROOT_LIMIT < n → is_accepted n ≡ false
 unfolding is_accepted
 accepted_above n lt =
     let some : nat_lt 0 n ≡ true = grind (arith, nat_tests) in
-    let large : nat_le n 60 ≡ false = grind (arith, nat_tests) in
-    ap (λ b. b && (nat_le n 60 && nat_le (totient n) 16)) some ∙ ap (λ b. b && nat_le (totient n) 16) large
+    let large : nat_le n ROOT_LIMIT ≡ false = grind (arith, nat_tests) in
+    ap (λ b. b && (nat_le n ROOT_LIMIT && nat_le (totient n) DEGREE_LIMIT)) some ∙ ap (λ b. b && nat_le (totient n) DEGREE_LIMIT) large
 
 -- the roots of the table are those that are accepted
 pub accepted_is : (n : ℕ) → is_accepted n ≡ is_listed n
 accepted_is n =
-    elim (cases_lt n 61) [
-      | inl lt ↦ same_bool_is (is_accepted n) (is_listed n) (all_below_at 61 (λ k. same_bool (is_accepted k) (is_listed k)) up_to_sixty n lt)
+    elim (cases_lt n (suc ROOT_LIMIT)) [
+      | inl lt ↦ same_bool_is (is_accepted n) (is_listed n) (all_below_at (suc ROOT_LIMIT) (λ k. same_bool (is_accepted k) (is_listed k)) up_to_the_limit n lt)
       | inr le ↦ accepted_above n (omega arith) ∙ sym (listed_above n (omega arith))
     ]
 
@@ -67,15 +68,15 @@ pub order_is : (n : ℕ) → IsTrue (is_accepted n) → order n ≡ n
 unfolding order root_at is_listed
 order_is n h = order_of n first_root roots (subst (λ b. IsTrue b) (accepted_is n) h)
 
-pub accepted_small : (n : ℕ) → IsTrue (is_accepted n) → n ≤ 60
+pub accepted_small : (n : ℕ) → IsTrue (is_accepted n) → n ≤ ROOT_LIMIT
 accepted_small n h =
-    elim (cases_lt 60 n) [
+    elim (cases_lt ROOT_LIMIT n) [
       | inl lt ↦ let e = accepted_above n lt in cc
       | inr le ↦ le
     ]
 
 -- of every number, as it counts for root 1 where it is no accepted root
-pub degree_small : (n : ℕ) → degree n ≤ 16
+pub degree_small : (n : ℕ) → degree n ≤ DEGREE_LIMIT
 unfolding degree
 degree_small n = let g = IsGood-root_at n in g.small
 

@@ -12,6 +12,7 @@ use Rattle.poly_core.specs.Companion.{IsBelow, unit, power, power-below}
 use Rattle.poly_core.specs.Image.{power-mod}
 use Rattle.poly_core.specs.Gcd.{gcd, totient}
 use Rattle.poly_core.specs.Table.{at, all_below, all_below_at, both, rows, rows_at, whole_row, P_top, P_below}
+use Rattle.poly_core.specs.declared.limits.TheConstants.{DEGREE_LIMIT}
 
 -- a root N with the coefficients of Phi_N below the top, of degree less_one + 1
 pub record Root : Type 0 where
@@ -69,9 +70,9 @@ is_full r = eqb (length r.low) (suc r.less_one)
 abbrev pub is_positive : Root → Bool
 is_positive r = eqb (r.order - 1 + 1) r.order
 
--- the degree is at most 16
+-- the degree is at most the limit
 abbrev pub is_small : Root → Bool
-is_small r = leb (suc r.less_one) 16
+is_small r = leb (suc r.less_one) DEGREE_LIMIT
 
 -- the degree is at most N
 abbrev pub is_within : Root → Bool
@@ -102,7 +103,7 @@ passes r = sizes_pass r && table_passes r (table_of r)
 -- what the tests say
 pub record IsGood (r : Root) : Type 0 where
   pub positive : 0 < r.order
-  pub small : suc r.less_one ≤ 16
+  pub small : suc r.less_one ≤ DEGREE_LIMIT
   pub within : suc r.less_one ≤ r.order
   pub full : length r.low ≡ suc r.less_one
   pub turned : gcd (r.order - 1) r.order ≡ 1
@@ -222,7 +223,7 @@ good r h =
     let positive : 0 < r.order = omega arith in
     record {
       positive = positive;
-      small = le_by_test (suc r.less_one) 16 s1.0;
+      small = le_by_test (suc r.less_one) DEGREE_LIMIT s1.0;
       within = le_by_test (suc r.less_one) r.order s3.0;
       full = full;
       turned = by_test (gcd (r.order - 1) r.order) 1 s4.0;

@@ -6,10 +6,11 @@ use Rattle.poly_core.specs.Gcd.{totient}
 use Rattle.poly_core.specs.Good.{phi}
 use Rattle.poly_core.specs.Roots.{root_at}
 use Rattle.poly_core.specs.Table.{whole_row}
+use Rattle.poly_core.specs.declared.limits.TheConstants.{ROOT_LIMIT, DEGREE_LIMIT}
 
 -- the roots that numbers may have
 unfoldable pub is_accepted : ℕ → Bool
-is_accepted n = nat_lt 0 n && (nat_le n 60 && nat_le (totient n) 16)
+is_accepted n = nat_lt 0 n && (nat_le n ROOT_LIMIT && nat_le (totient n) DEGREE_LIMIT)
 
 -- the coefficients of Phi_N, low one first
 unfoldable pub polynomial : ℕ → List ℤ

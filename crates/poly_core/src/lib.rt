@@ -1,7 +1,7 @@
 //! Cyclotomic polynomials, and the powers of a root of unity in the basis that they give.
 //!
 //! Glossary:
-//! - *accepted root*: an order N from 1 to 60 with phi(N) at most 16 (`specs/Rho.antt`).
+//! - *accepted root*: an order N from 1 to `ROOT_LIMIT` with phi(N) at most `DEGREE_LIMIT` (`specs/Rho.antt`).
 //! - *cyclotomic polynomial*: the exact quotient of x^N - 1 by the product of those of the divisors of N
 //!   below N (`specs/Cyclotomic.antt`; Washington, Introduction to Cyclotomic Fields, chapter 2).
 //! - *rho*: the coefficients of the powers of z, a root of unity of order N (`specs/Rho.antt`).
@@ -13,24 +13,27 @@ ghost use Rattle.std.specs.Prelude.{◌≡◌, ◌≤◌, ◌↔◌, IsTrue, IsO
 ghost use Rattle.poly_core.specs.Cyclotomic.{IsCyclotomic};
 ghost use Rattle.poly_core.specs.Rho.{is_accepted, polynomial};
 ghost use Rattle.poly_core.specs.Table.{whole_row};
+ghost use Rattle.poly_core.specs.declared.limits.TheConstants.{DEGREE_LIMIT};
 
 pub mod laws;
+mod limits;
 mod power;
 mod table;
 
 use arrayvec::ArrayVec;
+pub use limits::{COEFFICIENT_LIMIT, DEGREE_LIMIT, ROOT_LIMIT};
 pub use power::{PowerTable, powers};
 
-/// The coefficients of a polynomial of a degree of at most 16, low one first.
-pub type Poly = ArrayVec<i64, 17>;
+/// The coefficients of a polynomial of a degree of at most [`DEGREE_LIMIT`], low one first.
+pub type Poly = ArrayVec<i64, COEFFICIENT_LIMIT>;
 
-/// The order of a root of unity isn't accepted: it is 0 or above 60, or phi of it is above 16.
+/// The order of a root of unity isn't accepted: it is 0 or above [`ROOT_LIMIT`], or phi of it is above [`DEGREE_LIMIT`].
 #[derive(Clone, Copy, Debug, PartialEq, Eq)]
 pub struct RootRefused;
 
 /// The cyclotomic polynomial of n, low coefficient first: phi(n) + 1 coefficients, the last of which is 1.
 ///
-/// Refused exactly where n is 0 or above 60, or phi(n) is above 16. Takes no memory.
+/// Refused exactly where n is 0 or above [`ROOT_LIMIT`], or phi(n) is above [`DEGREE_LIMIT`]. Takes no memory.
 #[tactic(auto, using(crate::proofs::RhoLemmas::accepted_is))]
 pub fn cyclotomic(n: u8) -> Result<Poly, RootRefused>
     ensures accepted { IsOk result ↔ IsTrue (is_accepted n) }
@@ -45,7 +48,7 @@ pub fn cyclotomic(n: u8) -> Result<Poly, RootRefused>
 
 /// The polynomial with the top coefficient 1 over the given ones.
 fn with_top(low: &[i8]) -> Poly
-    requires { length low.now ≤ 16 }
+    requires { length low.now ≤ DEGREE_LIMIT }
     ensures { result.items ≡ whole_row low.now }
 {
     let mut poly = ArrayVec::new();

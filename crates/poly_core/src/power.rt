@@ -5,8 +5,10 @@ ghost use Rattle.poly_core.specs.Gcd.{totient};
 ghost use Rattle.poly_core.specs.Rho.{is_accepted, degree, order, rho};
 ghost use Rattle.poly_core.specs.Roots.{root_at};
 ghost use Rattle.poly_core.specs.Table.{at};
+ghost use Rattle.poly_core.specs.declared.limits.TheConstants.{DEGREE_LIMIT};
 
 use crate::RootRefused;
+use crate::limits::{DEGREE_LIMIT, ROOT_LIMIT};
 use crate::table::low_coefficients;
 use std::marker::Model;
 
@@ -15,7 +17,7 @@ use std::marker::Model;
 pub struct PowerTable {
     root: u8,
     phi: u8,
-    rows: [[i8; 16]; 60],
+    rows: [[i8; DEGREE_LIMIT]; ROOT_LIMIT],
 }
 
 impl Model for PowerTable {
@@ -41,15 +43,15 @@ fn less_multiple(before: &i8, top: &i8, coefficient: &i8) -> i8
 }
 
 /// The power after the one in `row`, for a polynomial with the coefficients `low` below its top one.
-fn next_power(row: &[i8; 16], low: &[i8]) -> [i8; 16]
+fn next_power(row: &[i8; DEGREE_LIMIT], low: &[i8]) -> [i8; DEGREE_LIMIT]
     requires some { 0 < length low.now }
-    requires few { length low.now ≤ 16 }
+    requires few { length low.now ≤ DEGREE_LIMIT }
     requires row { (j : ℕ) → unsigned_abs (at row.now j) ≤ 1 }
     requires low { (j : ℕ) → j < length low.now → unsigned_abs (at low.now j) ≤ 1 }
     ensures value { (j : ℕ) → j < length low.now → at result j ≡ shift (at row.now) j +ℤ neg_ℤ (at row.now (length low.now - 1) *ℤ at low.now j) }
     ensures rest { (j : ℕ) → length low.now ≤ j → at result j ≡ pos 0 }
 {
-    let mut after = [0i8; 16];
+    let mut after = [0i8; DEGREE_LIMIT];
     for j in 0..low.len() {
         let before = if j == 0 { 0 } else { row[j - 1] };
         after[j] = less_multiple(&before, &row[low.len() - 1], &low[j]);
@@ -58,13 +60,13 @@ fn next_power(row: &[i8; 16], low: &[i8]) -> [i8; 16]
 }
 
 /// The powers from z^0 to z^(n - 1).
-fn rows_of(n: u8, low: &[i8]) -> [[i8; 16]; 60]
+fn rows_of(n: u8, low: &[i8]) -> [[i8; DEGREE_LIMIT]; ROOT_LIMIT]
     requires accepted { IsTrue (is_accepted n) }
     requires low { low.now ≡ (root_at n).low }
     ensures { (k : ℕ) → k < n → at (slice_index_or result k []) ≡ rho n k }
 {
-    let mut rows = [[0i8; 16]; 60];
-    let mut row = [0i8; 16];
+    let mut rows = [[0i8; DEGREE_LIMIT]; ROOT_LIMIT];
+    let mut row = [0i8; DEGREE_LIMIT];
     row[0] = 1;
     for k in 0..usize::from(n) {
         rows[k] = row;
@@ -75,7 +77,7 @@ fn rows_of(n: u8, low: &[i8]) -> [[i8; 16]; 60]
 
 /// The powers of a root of unity of order n.
 ///
-/// Refused exactly where n is 0 or above 60, or phi(n) is above 16. Takes no memory.
+/// Refused exactly where n is 0 or above [`ROOT_LIMIT`], or phi(n) is above [`DEGREE_LIMIT`]. Takes no memory.
 #[tactic(auto, using(crate::proofs::RhoLemmas::accepted_is))]
 pub fn powers(n: u8) -> Result<PowerTable, RootRefused>
     ensures accepted { IsOk result ↔ IsTrue (is_accepted n) }
@@ -119,8 +121,8 @@ impl PowerTable {
         i64::from(self.rows[usize::from(k)][usize::from(j)])
     }
 
-    /// The sixteen coefficients of z^k, which are zero from phi(N) on.
-    pub fn row(&self, k: u8) -> &[i8; 16]
+    /// The coefficients of z^k, which are zero from phi(N) on.
+    pub fn row(&self, k: u8) -> &[i8; DEGREE_LIMIT]
         requires { k < self.now }
         ensures value { at result.now ≡ rho self.now k }
         ensures tiny { (j : ℕ) → unsigned_abs (at result.now j) ≤ 1 }

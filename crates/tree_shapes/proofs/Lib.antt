@@ -1,0 +1,13 @@
+mod ChainLemmas
+pub mod ContextLemmas
+mod JoinLinks
+mod RaiseLinks
+mod ReadLinks
+pub mod ReaderLemmas
+pub mod RotationLemmas
+pub mod SettleLemmas
+mod SettleLinks
+mod TestLemmas
+mod TurnLinks
+mod TurnLinksLeft
+mod Worked

@@ -1,8 +1,12 @@
-//! Labelled fusion trees.
+//! Labelled fusion trees, and their shapes.
 //!
 //! Glossary:
 //! - *labelled tree*: a fusion tree whose leaves are strands and whose nodes carry the label of their
 //!   charge (`specs/Labelled.antt`).
+//! - *outline*: a tree without labels, whose gaps count from 1 from left to right (`specs/Outlines.antt`).
+//! - *around*: an outline with a hole; a rotation is one in a hole (`specs/Contexts.antt`).
+//! - *pair*: a node over two strands; *settling* raises what stands between (`specs/Settling.antt`).
+//! - *links*: for each gap the gaps of its node's children and parent (`specs/Links.antt`).
 //! - *left-combed*: every right child is a strand (`specs/Labelled.antt`).
 #![tactic(auto)]
 
@@ -11,9 +15,13 @@ ghost use Rattle.tree_shapes.specs.Views.{labelled};
 ghost use Rattle.tree_shapes.specs.Labelled.{Joined, Strand, is_strand, is_left_comb as is_comb};
 
 mod limits;
+mod rotation;
+mod shape;
 mod tree;
+mod tree_links;
 
-pub use limits::{KEY_LIMIT, STRAND_LIMIT};
+pub use limits::{KEY_LIMIT, SETTLE_LIMIT, STRAND_LIMIT};
+pub use shape::{Settling, Shape};
 use std::alloc::{AllocError, Global};
 pub use tree::{Fork, Tree};
 

@@ -1,16 +1,18 @@
 -- A function on each element of a list, in place.
-use Rattle.std.proofs.Common.{◌≡◌, ℕ, zero, suc, ◌+◌, ◌<◌, List, [], ◌∷◌, ◌++◌, map, length, get_or, set, take, drop, Option, Some, None, refl, ap, sym, subst, ◌∙◌, arith}
+use Rattle.std.proofs.Common.{◌≡◌, ℕ, zero, suc, ◌+◌, ◌<◌, List, [], ◌∷◌, ◌++◌, map, length, get_or, set, take, drop, Option, Some, None, refl, ap, sym, subst, ◌∙◌, arith, drop-cons}
 use Rattle.std.specs.Prelude.{Result, Ok, Err}
 use Rattle.std.specs.List.{AllByRecursion}
 use Rattle.std.proofs.lemmas.List.{map-append, take_more, take_more_set, get_or-drop, drop-drop, drop-set-lt}
+use Rattle.ring_laws.proofs.StatedLemmas.{some_inj}
 use Rattle.word_runs.specs.Runs.{both, each, ◌>>>◌}
 use Rattle.word_runs.specs.declared.fault.RunStop.{RunStop}
 
 pub ok_same : {A F : Type 0} (r : Result A F) (a b : A) → r ≡ Ok a → r ≡ Ok b → a ≡ b
 ok_same r a b p q = cc
 
-pub some_same : {A : Type 0} (a b : A) → Some a ≡ Some b → a ≡ b
-some_same a b e = cc
+-- the items from i on begin with item i
+pub next_item : {A : Type 0} (xs : List A) (i : ℕ) (d : A) → i < length xs → drop i xs ≡ get_or xs i d ∷ drop (i + 1) xs
+next_item xs i d h = let e : suc i ≡ i + 1 = omega arith in drop-cons xs i d h ∙ ap (λ j. get_or xs i d ∷ drop j xs) e
 
 pub all_append : {A : Type 0} (P : A → Type 0) (xs ys : List A) → AllByRecursion P xs → AllByRecursion P ys → AllByRecursion P (xs ++ ys)
 all_append P [] ys a b = b
@@ -36,7 +38,7 @@ pub record Parts {B : Type 0} (o : Option B) (os : Option (List B)) (ys : List B
 pub both_parts : {B : Type 0} (o : Option B) (rest : Option (List B)) (ys : List B) → both o rest ≡ Some ys → Parts o rest ys
 both_parts None rest ys e = absurd (cc)
 both_parts (Some y) None ys e = absurd (cc)
-both_parts (Some y) (Some zs) ys e = record { head = y; tail = zs; is = sym (some_same (y ∷ zs) ys e); first = refl; rest = refl }
+both_parts (Some y) (Some zs) ys e = record { head = y; tail = zs; is = sym (some_inj (y ∷ zs) ys e); first = refl; rest = refl }
 
 pub all_at : {A B : Type 0} (P : B → Type 0) (f : A → B) (xs : List A) (i : ℕ) (d : A) → i < length xs → AllByRecursion P (map f xs) → P (f (get_or xs i d))
 all_at P f [] i d l h = absurd (omega arith)
@@ -59,7 +61,7 @@ all_item P f xs i x l e h = subst (λ y. P (f y)) (sym e) (all_at P f xs i x l h
 -- what f makes of all, where it makes what is Q of what is P
 pub each_keeps : {A B : Type 0} (f : A → Option B) (P : A → Type 0) (Q : B → Type 0) → ((x : A) (y : B) → f x ≡ Some y → P x → Q y)
     → (xs : List A) (ys : List B) → each f xs ≡ Some ys → AllByRecursion P xs → AllByRecursion Q ys
-each_keeps f P Q k [] ys e h = subst (AllByRecursion Q) (some_same [] ys e) tt
+each_keeps f P Q k [] ys e h = subst (AllByRecursion Q) (some_inj [] ys e) tt
 each_keeps f P Q k (x ∷ xs) ys e h =
     let p = both_parts (f x) (each f xs) ys e in
     subst (AllByRecursion Q) (sym p.is) (k x p.head p.first h.0, each_keeps f P Q k xs p.tail p.rest h.1)
@@ -88,10 +90,10 @@ both_some : {B : Type 0} (o : Option B) (rest rest' : Option (List B)) (ys : Lis
     → ((ws : List B) → rest ≡ Some ws → rest' ≡ Some (ws ++ y ∷ [])) → both o rest' ≡ Some (ys ++ y ∷ [])
 both_some None rest rest' ys y e h = absurd (cc)
 both_some (Some w) None rest' ys y e h = absurd (cc)
-both_some (Some w) (Some ws) rest' ys y e h = rw (h ws refl) (ap (λ l. Some (l ++ y ∷ [])) (some_same (w ∷ ws) ys e))
+both_some (Some w) (Some ws) rest' ys y e h = rw (h ws refl) (ap (λ l. Some (l ++ y ∷ [])) (some_inj (w ∷ ws) ys e))
 
 pub each_append : {A B : Type 0} (f : A → Option B) (xs : List A) (x : A) (ys : List B) (y : B) → each f xs ≡ Some ys → f x ≡ Some y → each f (xs ++ x ∷ []) ≡ Some (ys ++ y ∷ [])
-each_append f [] x ys y e h = rw h (ap (λ l. Some (l ++ y ∷ [])) (some_same [] ys e))
+each_append f [] x ys y e h = rw h (ap (λ l. Some (l ++ y ∷ [])) (some_inj [] ys e))
 each_append f (z ∷ zs) x ys y e h = both_some (f z) (each f zs) (each f (zs ++ x ∷ [])) ys y e (λ ws r. each_append f zs x ws y r h)
 
 both_none : {B : Type 0} (o : Option B) (rest : Option (List B)) → rest ≡ None → both o rest ≡ None

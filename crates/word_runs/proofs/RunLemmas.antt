@@ -13,9 +13,6 @@ use Rattle.word_runs.specs.declared.fault.RunFault.{RunFault}
 use Rattle.word_runs.specs.declared.fault.RunStop.{RunStop}
 use Rattle.word_runs.proofs.StepLemmas.{stops_on}
 
-pub next_command : (commands : List Command) (i : ℕ) (d : Command) → i < length commands → drop i commands ≡ get_or commands i d ∷ drop (i + 1) commands
-next_command commands i d h = let e : suc i ≡ i + 1 = omega arith in drop-cons commands i d h ∙ ap (λ j. get_or commands i d ∷ drop j commands) e
-
 -- how many measurements there are with a command in front
 pub measurements_more : (c : Command) (cs : List Command) → measurements (c ∷ cs) ≡ outcomes_of c + measurements cs
 measurements_more (Braid k sign) cs = omega arith

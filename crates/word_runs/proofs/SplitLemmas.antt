@@ -2,10 +2,11 @@
 use Rattle.std.proofs.Common.{◌≡◌, ℕ, zero, suc, ◌+◌, ◌<◌, List, [], ◌∷◌, ◌++◌, map, length, get_or, take, Option, Some, None, refl, ap, sym, subst, ◌∙◌, arith, append_assoc}
 use Rattle.std.specs.List.{AllByRecursion}
 use Rattle.std.proofs.lemmas.List.{append-nil, map-append, take_more, length-set}
+use Rattle.ring_laws.proofs.StatedLemmas.{some_inj}
 use Rattle.word_runs.specs.Told.{Told, AreShapes}
 use Rattle.word_runs.specs.Runs.{Live, outcomes_of, split_by, split_word, split_words, joined}
 use Rattle.word_runs.specs.Lives.{AreLong, HaveShape}
-use Rattle.word_runs.proofs.EachLemmas.{some_same, all_append, all_map}
+use Rattle.word_runs.proofs.EachLemmas.{all_append, all_map}
 
 joined_none : {A : Type 0} (o rest : Option (List A)) → rest ≡ None → joined o rest ≡ None
 joined_none None rest e = refl
@@ -16,7 +17,7 @@ joined_some : {A : Type 0} (o rest rest' : Option (List A)) (made ys : List A) �
 joined_some None rest rest' made ys e h = absurd (cc)
 joined_some (Some xs) None rest' made ys e h = absurd (cc)
 joined_some (Some xs) (Some zs) rest' made ys e h =
-    rw (h zs refl) (ap Some (sym (append_assoc xs zs made)) ∙ ap (λ l. Some (l ++ made)) (some_same (xs ++ zs) ys e))
+    rw (h zs refl) (ap Some (sym (append_assoc xs zs made)) ∙ ap (λ l. Some (l ++ made)) (some_inj (xs ++ zs) ys e))
 
 -- the parts of what is there
 record Joined {A : Type 0} (o rest : Option (List A)) (ys : List A) : Type 0 where
@@ -29,7 +30,7 @@ record Joined {A : Type 0} (o rest : Option (List A)) (ys : List A) : Type 0 whe
 joined_parts : {A : Type 0} (o rest : Option (List A)) (ys : List A) → joined o rest ≡ Some ys → Joined o rest ys
 joined_parts None rest ys e = absurd (cc)
 joined_parts (Some xs) None ys e = absurd (cc)
-joined_parts (Some xs) (Some zs) ys e = record { head = xs; tail = zs; is = sym (some_same (xs ++ zs) ys e); first = refl; others = refl }
+joined_parts (Some xs) (Some zs) ys e = record { head = xs; tail = zs; is = sym (some_inj (xs ++ zs) ys e); first = refl; others = refl }
 
 -- a place of words of m places is a place of each
 pub all_places : {M : Type 0} (P : ℕ → Type 0) (m : ℕ) (live : List (Live M)) → P m → AreLong m live → AllByRecursion (λ l. P (length l.word)) live
@@ -43,11 +44,11 @@ record Made {M : Type 0} (place : ℕ) (word : List ℕ) (o : Option (List (ℕ 
 
 made_of : {M : Type 0} (place : ℕ) (word : List ℕ) (o : Option (List (ℕ × M))) (ys : List (Live M)) → split_by place word o ≡ Some ys → Made place word o ys
 made_of place word None ys e = absurd (cc)
-made_of place word (Some parts) ys e = record { parts = parts; some = refl; is = sym (some_same (outcomes_of place word parts) ys e) }
+made_of place word (Some parts) ys e = record { parts = parts; some = refl; is = sym (some_inj (outcomes_of place word parts) ys e) }
 
 module _ {M T : Type 0} (e : Told M T) (k p : ℕ) where
   split_append : (xs : List (Live M)) (x : Live M) (ys made : List (Live M)) → split_words e k p xs ≡ Some ys → split_word e k p x ≡ Some made → split_words e k p (xs ++ x ∷ []) ≡ Some (ys ++ made)
-  split_append [] x ys made h one = rw one (ap Some (append-nil made) ∙ ap (λ l. Some (l ++ made)) (some_same [] ys h))
+  split_append [] x ys made h one = rw one (ap Some (append-nil made) ∙ ap (λ l. Some (l ++ made)) (some_inj [] ys h))
   split_append (z ∷ xs) x ys made h one =
       joined_some (split_word e k p z) (split_words e k p xs) (split_words e k p (xs ++ x ∷ [])) made ys h (λ zs is. split_append xs x zs made is one)
 
@@ -75,7 +76,7 @@ module _ {M T : Type 0} (e : Told M T) (k p : ℕ) where
   parts_long m word (x ∷ parts) h = (length-set word p x.0 ∙ h, parts_long m word parts h)
 
   pub split_shape : AreShapes e → (t : T) (live next : List (Live M)) → split_words e k p live ≡ Some next → HaveShape e t live → HaveShape e t next
-  split_shape shapes t [] next is h = subst (HaveShape e t) (some_same [] next is) tt
+  split_shape shapes t [] next is h = subst (HaveShape e t) (some_inj [] next is) tt
   split_shape shapes t (l ∷ live) next is h =
       let j = joined_parts (split_word e k p l) (split_words e k p live) next is in
       let made = made_of p l.word (e.parts k l.state) j.head j.first in
@@ -85,7 +86,7 @@ module _ {M T : Type 0} (e : Told M T) (k p : ℕ) where
       (subst (HaveShape e t) (sym made.is) (parts_shape t l.word made.parts all)) (split_shape shapes t live j.tail j.others h.1))
 
   pub split_long : (m : ℕ) (live next : List (Live M)) → split_words e k p live ≡ Some next → AreLong m live → AreLong m next
-  split_long m [] next is h = subst (AreLong m) (some_same [] next is) tt
+  split_long m [] next is h = subst (AreLong m) (some_inj [] next is) tt
   split_long m (l ∷ live) next is h =
       let j = joined_parts (split_word e k p l) (split_words e k p live) next is in
       let made = made_of p l.word (e.parts k l.state) j.head j.first in

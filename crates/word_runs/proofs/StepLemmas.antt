@@ -2,6 +2,7 @@
 use Rattle.std.proofs.Common.{◌≡◌, ℕ, Bool, true, false, List, length, Option, Some, None, refl, ap, sym, subst, ◌∙◌}
 use Rattle.std.specs.Prelude.{Result, Ok, Err, if◌then◌else◌, nat_lt, OnOk, IfOk}
 use Rattle.std.specs.List.{AllByRecursion}
+use Rattle.ring_laws.proofs.StatedLemmas.{some_inj}
 use Rattle.word_runs.specs.Told.{Told, AreShapes, after_step}
 use Rattle.word_runs.specs.Runs.{Live, Test, passes, live_after, step_word, step_words, split_words, width, counted, limited, fitting, step_of, split_of, ◌>>>◌, Stops, Leaves, Runs}
 use Rattle.word_runs.specs.Lives.{AreLong, AreAlike, HaveShape}
@@ -11,7 +12,7 @@ use Rattle.word_runs.specs.declared.fault.RunFault.TheVariants.{Stop, Memory}
 use Rattle.word_runs.specs.declared.fault.RunStop.{RunStop}
 use Rattle.word_runs.specs.declared.fault.RunStop.TheVariants.{Branches, Wide}
 use Rattle.word_runs.specs.declared.limits.TheConstants.{WORD_LIMIT, AMPLITUDE_LIMIT}
-use Rattle.word_runs.proofs.EachLemmas.{some_same, ok_same, each_keeps}
+use Rattle.word_runs.proofs.EachLemmas.{ok_same, each_keeps}
 use Rattle.word_runs.proofs.SplitLemmas.{split_shape, split_long}
 
 -- what a step makes of one word: either it is stepped, or it fails the test and stays
@@ -21,13 +22,13 @@ SteppedBy b o l m = (m.word ≡ l.word) × ((if b then o else Some l.state) ≡ 
 stepped_state : {M : Type 0} (l m : Live M) (o : Option M) → live_after l o ≡ Some m → (m.word ≡ l.word) × (o ≡ Some m.state)
 stepped_state l m None h = absurd (cc)
 stepped_state {M} l m (Some s) h =
-    let same = some_same (record { word = l.word; state = s }) m h in
+    let same = some_inj (record { word = l.word; state = s }) m h in
     (sym (ap (λ (x : Live M). x.word) same), ap (λ (x : Live M). Some x.state) same)
 
 stepped_by : {M : Type 0} (l m : Live M) (b : Bool) (o : Option M) → (if b then live_after l o else Some l) ≡ Some m → SteppedBy b o l m
 stepped_by l m true o h = stepped_state l m o h
 stepped_by {M} l m false o h =
-    let same = some_same l m h in
+    let same = some_inj l m h in
     (sym (ap (λ (x : Live M). x.word) same), ap (λ (x : Live M). Some x.state) same)
 
 module _ {M T : Type 0} (e : Told M T) where
@@ -38,7 +39,7 @@ module _ {M T : Type 0} (e : Told M T) where
   shape_by : AreShapes e → (step : Step) (b : Bool) (l m : Live M) → ((t : T) → b ≡ false → after_step e step t ≡ t)
       → (if b then e.stepped step l.state else Some l.state) ≡ Some m.state → e.shape m.state ≡ after_step e step (e.shape l.state)
   shape_by shapes step true l m stays h = shapes.steps step l.state m.state h
-  shape_by shapes step false l m stays h = ap e.shape (sym (some_same l.state m.state h)) ∙ sym (stays (e.shape l.state) refl)
+  shape_by shapes step false l m stays h = ap e.shape (sym (some_inj l.state m.state h)) ∙ sym (stays (e.shape l.state) refl)
 
   module _ (test : Option Test) (step : Step) (old new : List (Live M)) (is : step_words e test step old ≡ Some new) where
     step_shape : AreShapes e → Stays test step → (t : T) → HaveShape e t old → HaveShape e (after_step e step t) new

@@ -9,9 +9,6 @@ use Rattle.word_runs.specs.Lives.{HaveShape}
 use Rattle.word_runs.specs.declared.engine.Step.TheVariants.{Raise}
 use Rattle.word_runs.proofs.StepLemmas.{step_of_ok, step_pairs}
 
-pub next_gap : (path : List ℕ) (i : ℕ) → i < length path → drop i path ≡ get_or path i 0 ∷ drop (i + 1) path
-next_gap path i h = let e : suc i ≡ i + 1 = omega arith in drop-cons path i 0 h ∙ ap (λ j. get_or path i 0 ∷ drop j path) e
-
 module _ {M T : Type 0} (e : Told M T) (shapes : AreShapes e) (k : ℕ) where
   -- what the shape of a word becomes by these raises is a pair
   abbrev pub Pairs : List ℕ → List (Live M) → Type 0

@@ -11,7 +11,7 @@ pub enum StepFault {
     /// An item doesn't fit.
     TooLarge,
     /// Memory ran out.
-    NoRoom,
+    Memory,
 }
 
 /// Where the stated evaluation of a run stops. Each command is a turn, counted from 1.
@@ -40,11 +40,11 @@ impl StepFault {
     /// What a step that stops in a turn says of the run.
     pub fn in_turn(self, turn: u32) -> RunFault
         ensures too_large { self ≡ StepFault.TooLarge → result ≡ RunFault.Stop (RunStop.Overflow turn) }
-        ensures no_room { self ≡ StepFault.NoRoom → result ≡ RunFault.Memory }
+        ensures memory { self ≡ StepFault.Memory → result ≡ RunFault.Memory }
     {
         match self {
             StepFault::TooLarge => RunFault::Stop(RunStop::Overflow { turn }),
-            StepFault::NoRoom => RunFault::Memory,
+            StepFault::Memory => RunFault::Memory,
         }
     }
 }
@@ -62,12 +62,12 @@ impl From<Overflow> for StepFault {
 
 impl From<AllocError> for StepFault {
     ghost use Rattle.std.specs.Prelude.{◌≡◌};
-    ghost use Rattle.word_runs.specs.declared.fault.StepFault.TheVariants.{NoRoom};
+    ghost use Rattle.word_runs.specs.declared.fault.StepFault.TheVariants.{Memory};
 
-    ghost from_gives = { λ _ e. e ≡ NoRoom };
+    ghost from_gives = { λ _ e. e ≡ Memory };
 
     fn from(_fault: AllocError) -> Self {
-        StepFault::NoRoom
+        StepFault::Memory
     }
 }
 

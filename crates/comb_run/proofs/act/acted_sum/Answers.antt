@@ -7,7 +7,7 @@ use Rattle.word_runs.specs.declared.fault.StepFault.TheVariants.{TooLarge}
 use Rattle.comb_run.specs.Entries.{vector_of}
 use Rattle.comb_run.specs.Evaluated.{acted_step}
 use Rattle.comb_run.specs.Operations.{kernel_at}
-use Rattle.comb_run.proofs.PartLemmas.{err_same}
+use Rattle.word_runs.proofs.EachLemmas.{err_same}
 use Rattle.comb_run.proofs.act.acted_sum.Goals as goal
 
 pub returns-in_err-sum-clause-too_large : goal.returns-in_err-sum-clause-too_large

@@ -12,7 +12,7 @@ use Rattle.comb_run.proofs.Gather.{gathered_step, items_more, fits_step, among_i
 use Rattle.comb_run.proofs.ActLemmas.{on_path}
 use Rattle.comb_run.proofs.EntryLemmas.{put_there}
 use Rattle.comb_run.proofs.KeyLemmas.{path_keyed, unit_same}
-use Rattle.comb_run.proofs.PartLemmas.{err_same}
+use Rattle.word_runs.proofs.EachLemmas.{err_same}
 use Rattle.comb_run.proofs.Values.{acted_value}
 use Rattle.comb_run.proofs.act.gather.Goals as goal
 

@@ -36,6 +36,6 @@ returns g c =
     let stated : run_of (comb_told s n) 1 (letters 0 cs) begun ≡ Ok ends = ap (λ m. run_of (comb_told s m) 1 (letters 0 cs) begun) (sym c.len.ensures.value) ∙ c.in_ok-ends.ensures.stated in
     let long = length-letters 0 cs in
     stops_there c.in-Err.fault c.in_turn.result (1 + length (letters 0 cs)) (rest_of s n 1 (letters 0 cs) begun)
-    (λ e. c.in_turn.ensures.too_large e ∙ ap (λ t. Stop (Overflow t)) (omega (arith, long))) c.in_turn.ensures.no_room
+    (λ e. c.in_turn.ensures.too_large e ∙ ap (λ t. Stop (Overflow t)) (omega (arith, long))) c.in_turn.ensures.memory
     (λ e. rest_late s n 1 (letters 0 cs) begun ends stated
     (ap (λ ws. rows_at s (lives_of (state_of s.ring) ws)) (sym c.as_slice.ensures.value) ∙ c.in-Err.ensures.too_large (ap Err e)))

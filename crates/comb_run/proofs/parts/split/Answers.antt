@@ -7,7 +7,8 @@ use Rattle.word_runs.specs.declared.fault.StepFault.TheVariants.{TooLarge}
 use Rattle.comb_run.specs.Entries.{vector_of}
 use Rattle.comb_run.specs.Evaluated.{projected_fits}
 use Rattle.comb_run.specs.States.{state_of}
-use Rattle.comb_run.proofs.PartLemmas.{parts_more, parts_none, labels_pass, labels_fail, err_same}
+use Rattle.word_runs.proofs.EachLemmas.{err_same}
+use Rattle.comb_run.proofs.PartLemmas.{parts_more, parts_none, labels_pass, labels_fail}
 use Rattle.comb_run.proofs.parts.split.Goals as goal
 
 pub returns-in_err-push_projection-clause-too_large : goal.returns-in_err-push_projection-clause-too_large

@@ -9,7 +9,7 @@ use Rattle.comb_run.specs.Entries.{AreEntries}
 use Rattle.comb_run.specs.Evaluated.{rows_at}
 use Rattle.comb_run.specs.States.{state_of, rows_of}
 use Rattle.comb_run.specs.declared.state.CombState.{CombState}
-use Rattle.comb_run.proofs.PartLemmas.{err_same}
+use Rattle.word_runs.proofs.EachLemmas.{err_same}
 use Rattle.comb_run.proofs.RowLemmas.{rows_next, rows_stop}
 use Rattle.comb_run.proofs.rows.rows_of_words.Goals as goal
 

@@ -5,7 +5,8 @@ use Rattle.program_text.specs.declared.plan.Command.TheVariants.{Braid}
 use Rattle.program_text.specs.declared.plan.Sign.TheVariants.{Plus}
 use Rattle.word_runs.specs.Runs.{turn_of, run_of}
 use Rattle.word_runs.specs.Lives.{lives_of, IsFit}
-use Rattle.word_runs.proofs.RunLemmas.{next_command, outcomes_few, letters_fit, turn_more}
+use Rattle.word_runs.proofs.EachLemmas.{next_item}
+use Rattle.word_runs.proofs.RunLemmas.{outcomes_few, letters_fit, turn_more}
 use Rattle.word_runs.proofs.run.run_turns.Goals as goal
 
 pub loop-command-init : goal.loop-command-init
@@ -30,7 +31,7 @@ loop-command-preserved g c =
     let turn = c.loop-command.turn in
     let old = lives_of seen c.loop-command.live.items in
     let new = lives_of seen c.run_turn.new.live.items in
-    let next = next_command c.args.commands.now c.loop-command.command-index (Braid 0 Plus) c.loop-command-test.true in
+    let next = next_item c.args.commands.now c.loop-command.command-index (Braid 0 Plus) c.loop-command-test.true in
     let fit = subst (λ cs. AllByRecursion (IsFit e m) (letters place cs)) next c.loop-command.invariant.fit in
     let more = c.outcomes-place.ensures in
     record {

@@ -4,7 +4,8 @@ use Rattle.std.proofs.lemmas.List.{drop_all}
 use Rattle.word_runs.specs.Told.{IsGap}
 use Rattle.word_runs.specs.Runs.{raises_of}
 use Rattle.word_runs.specs.Lives.{lives_of}
-use Rattle.word_runs.proofs.TurnLemmas.{Pairs, next_gap, path_gaps, all_pairs, raised_pairs, raised_left}
+use Rattle.word_runs.proofs.EachLemmas.{next_item}
+use Rattle.word_runs.proofs.TurnLemmas.{Pairs, path_gaps, all_pairs, raised_pairs, raised_left}
 use Rattle.word_runs.proofs.turn.settle.Goals as goal
 
 pub loop-gap-init : goal.loop-gap-init
@@ -26,7 +27,7 @@ raise-requires-clause-alike g c = (c.requires.alike.0, c.loop-gap.invariant.alik
 
 pub raise-requires-clause-gap : goal.raise-requires-clause-gap
 raise-requires-clause-gap g c =
-    (subst (AllByRecursion (IsGap (g.E.Engine.told c.args.engine.now))) (next_gap c.as_slice-gap-items.result.now c.loop-gap.gap-index c.loop-gap-test.true) c.loop-gap.invariant.gaps).0
+    (subst (AllByRecursion (IsGap (g.E.Engine.told c.args.engine.now))) (next_item c.as_slice-gap-items.result.now c.loop-gap.gap-index 0 c.loop-gap-test.true) c.loop-gap.invariant.gaps).0
 
 pub loop-gap-preserved : goal.loop-gap-preserved
 loop-gap-preserved g c =
@@ -34,7 +35,7 @@ loop-gap-preserved g c =
     let shapes = g.met.E.Engine.shapes c.args.engine.now in
     let path = c.as_slice-gap-items.result.now in
     let i = c.loop-gap.gap-index in
-    let next = next_gap path i c.loop-gap-test.true in
+    let next = next_item path i 0 c.loop-gap-test.true in
     let old = lives_of (g.E.Engine.seen c.args.engine.now) c.loop-gap.live in
     let new = lives_of (g.E.Engine.seen c.args.engine.now) c.raise.new.live in
     record {
