@@ -10,7 +10,8 @@ use Rattle.symbol_table.specs.Symbols.{Symbols}
 use Rattle.comb_laws.specs.Paths.{Path, Vector, is_path, paths}
 use Rattle.comb_laws.specs.Operators.{Kernel, term_at, acted}
 use Rattle.comb_run.specs.Evaluated.{KernelAt, acted_step, acted_at, acted_fits}
-use Rattle.comb_run.specs.Entries.{entry_at, vector_of, kept_of, among, targets_of, gathered, AreEntries}
+use Rattle.comb_run.specs.Entries.{entry_at, vector_of, targets_of, AreEntries}
+use Rattle.amp_store.specs.Gathered.{kept_of, among, gathered}
 use Rattle.comb_run.proofs.Gather.{gathered_all, fits_all, vector_known}
 use Rattle.comb_run.proofs.PathLemmas.{among_paths, one_fails, all_pass}
 

@@ -1,5 +1,5 @@
 -- The entries of a vector that is gathered path by path.
-use Rattle.std.proofs.Common.{◌≡◌, not, ℕ, zero, suc, ◌+◌, ◌<◌, ◌≤◌, Bool, true, false, ◌||◌, List, [], ◌∷◌, ◌++◌, map, length, get_or, set, take, Option, unwrap_or, ◌⊎◌, inl, inr, Some, None, refl, ap, sym, ◌∙◌, subst, arith}
+use Rattle.std.proofs.Common.{◌≡◌, not, ℕ, zero, suc, ◌+◌, ◌<◌, ◌≤◌, Bool, true, false, ◌||◌, List, [], ◌∷◌, ◌++◌, map, length, get_or, set, take, Option, unwrap_or, inl, inr, Some, None, refl, ap, sym, ◌∙◌, arith}
 use mathlib.Core.Path.{fun_ext}
 use Rattle.std.specs.Prelude.{is_some, if◌then◌else◌, ◌&&◌, ◌==◌, nat_lt, IsTrue}
 use Rattle.std.specs.Str.{bytes_eq}
@@ -21,35 +21,9 @@ use Rattle.comb_run.specs.Evaluated.{KernelAt, acted_step, acted_at}
 use Rattle.comb_laws.specs.Paths.{Path, Vector, goes_on, is_path, labels, IsAlong}
 use Rattle.comb_laws.proofs.PathFacts.{same_path, and_true, nat_lt_true, along_append, goes_long}
 use Rattle.comb_run.proofs.EntryLemmas.{paths_hold}
-use Rattle.comb_run.specs.Entries.{path_of, paths_of, row_from, entry_at, vector_of, kept_of, among, row_of, is_first, rows_of_first, targets_of, items_of, gathered, AreMembers}
-
-one_among : (a x : Path) → among x (a ∷ []) ≡ bytes_eq a x
-one_among a x = elim (bytes_eq a x) as (λ b. (b || false) ≡ b) [ true ↦ refl | false ↦ refl ]
-
-among_more : (x a : Path) (done : List Path) → among x (done ++ a ∷ []) ≡ (among x done || bytes_eq a x)
-among_more x a done = rw (list_any-append (λ y. bytes_eq y x) done (a ∷ []), one_among a x) refl
-
-step_by : {E : Type 0} (h : Held E) (P : Vector E) (a x : Path) (v : E) (o n : Option E) (z d b : Bool) → v ≡ P a → h.is_zero v ≡ z → (b ≡ true → a ≡ x)
-    → n ≡ (if z then o else (if b then Some v else o)) → o ≡ (if d then kept_of h (P x) else None) → n ≡ (if d || b then kept_of h (P x) else None)
-step_by h P a x v o n true true b is test same new old = new ∙ old
-step_by h P a x v o n true false true is test same new old = let e : P x ≡ v = ap P (sym (same refl)) ∙ sym is in rw (e, test) (new ∙ old)
-step_by h P a x v o n true false false is test same new old = new ∙ old
-step_by h P a x v o n false true true is test same new old = let e : P x ≡ v = ap P (sym (same refl)) ∙ sym is in rw (e, test) new
-step_by h P a x v o n false true false is test same new old = new ∙ old
-step_by h P a x v o n false false true is test same new old = let e : P x ≡ v = ap P (sym (same refl)) ∙ sym is in rw (e, test) new
-step_by h P a x v o n false false false is test same new old = new ∙ old
-
--- one more path is done
-pub gathered_step : {E : Type 0} (h : Held E) (P : Vector E) (old new : Path → Option E) (done : List Path) (a : Path) (v : E) → v ≡ P a
-    → ((x : Path) → new x ≡ (if h.is_zero v then old x else (if bytes_eq a x then Some v else old x)))
-    → ((x : Path) → old x ≡ gathered h P done x) → (x : Path) → new x ≡ gathered h P (done ++ a ∷ []) x
-gathered_step h P old new done a v is made before x =
-    step_by h P a x v (old x) (new x) (h.is_zero v) (among x done) (bytes_eq a x) is refl (same_path a x) (made x) (before x)
-    ∙ ap (λ b. if b then kept_of h (P x) else None) (sym (among_more x a done))
-
-or_true : (b c : Bool) → c ≡ true → (b || c) ≡ true
-or_true true c h = refl
-or_true false c h = h
+use Rattle.comb_run.specs.Entries.{path_of, paths_of, row_from, entry_at, vector_of, row_of, is_first, rows_of_first, targets_of, items_of, AreMembers}
+use Rattle.amp_store.specs.Gathered.{kept_of, among, gathered}
+use Rattle.amp_store.proofs.GatherLemmas.{or_true}
 
 or_false : (b c : Bool) → (b || c) ≡ false → (b ≡ false) × (c ≡ false)
 or_false true c h = absurd (cc)
@@ -171,18 +145,6 @@ pub all_along : {E : Type 0} (count n k : ℕ) (strands : List ℕ) (es : List (
 all_along count n k strands es ps along is =
     All-from_recursion (λ p. IsAlong count n p.items) ps (items_along (IsAlong count n) ps
     (rw is (rows_along count n k strands es (paths_of strands (keys_of es)) (paths_hold (IsAlong count n) strands (keys_of es) along))))
-
-one_of : (b c : Bool) → (b || c) ≡ true → (b ≡ true) ⊎ (c ≡ true)
-one_of true c h = inl refl
-one_of false c h = inr h
-
--- each item fits at one more path
-pub fits_step : {E : Type 0} (S : Path → Option E) (done : List Path) (a : Path) (v : E) → S a ≡ Some v → ((x : Path) → among x done ≡ true → is_some (S x) ≡ true) → (x : Path) → among x (done ++ a ∷ []) ≡ true → is_some (S x) ≡ true
-fits_step {E} S done a v e before x h =
-    elim (one_of (among x done) (bytes_eq a x) (sym (among_more x a done) ∙ h)) [
-      | inl earlier ↦ before x earlier
-      | inr here ↦ subst (λ (z : Path). is_some (S z) ≡ true) (same_path a x here) (ap is_some e)
-    ]
 
 -- one more path of those that are taken
 pub items_more : (ps : List (ArrayVec ℕ)) (i : ℕ) (p : ArrayVec ℕ) → p ≡ get_or ps i p → i < length ps → items_of (take (i + 1) ps) ≡ items_of (take i ps) ++ p.items ∷ []

@@ -9,7 +9,7 @@ use Rattle.std.proofs.lemmas.Bool.Decides.{leb_tells, nat_tests}
 use Rattle.std.proofs.lemmas.Slice.Eq.{bytes_eq-Decides}
 use Rattle.symbol_table.specs.Symbols.{Symbols}
 use Rattle.comb_laws.specs.Paths.{Path, goes_on, is_path, labels, ways, paths}
-use Rattle.comb_run.specs.Entries.{among}
+use Rattle.amp_store.specs.Gathered.{among}
 use Rattle.comb_laws.proofs.PathFacts.{and_true, same_path}
 
 or_left : (b c : Bool) → b ≡ true → (b || c) ≡ true

@@ -18,7 +18,8 @@ use Rattle.ring_laws.specs.Stated.{◌>>=◌, steps_over}
 use Rattle.symbol_table.specs.Symbols.{Symbols}
 use Rattle.comb_laws.specs.Paths.{Path, Vector, paths, is_path}
 use Rattle.comb_run.specs.Evaluated.{path_weight_at, weight_term_at, weight_step, weight_at, amplitudes}
-use Rattle.comb_run.specs.Entries.{path_of, paths_of, entry_at, vector_of, among, AreEntries, AreOrdered}
+use Rattle.comb_run.specs.Entries.{path_of, paths_of, entry_at, vector_of, AreEntries, AreOrdered}
+use Rattle.amp_store.specs.Gathered.{among}
 use Rattle.comb_run.proofs.EntryLemmas.{lookup_is}
 use Rattle.comb_laws.proofs.PathFacts.{same_path}
 use Rattle.comb_run.proofs.PathLemmas.{among_paths}

@@ -1,13 +1,13 @@
 -- The vector of a list of entries, by keys.
 use Rattle.std.specs.Prelude.{◌≡◌, not, is_some, slice_index, ◌++◌, ℕ, Bool, List, [], ◌∷◌, map, Option, Some, None, if◌then◌else◌, unwrap_or, true, false, IsTrue, slice_set}
 use Rattle.std.specs.Str.{bytes_eq}
-use Rattle.std.specs.List.{list_any, list_all, range_with_len}
+use Rattle.std.specs.List.{list_all, range_with_len}
 use Rattle.std.specs.List.Sorted.{IsStrictlySortedBy}
 use Rattle.std.specs.Ordering.{nat_cmp}
 use Rattle.std.specs.Cmp.Lexicographic.{slice_cmp}
 use Rattle.std.specs.Map.{keys_of}
 use Rattle.arrayvec.specs.ArrayVec.{ArrayVec}
-use Rattle.ring_laws.specs.Ring.{Ring, Held}
+use Rattle.ring_laws.specs.Ring.{Ring}
 use Rattle.symbol_table.specs.Symbols.{Symbols}
 use Rattle.comb_laws.specs.Paths.{Path, Vector, is_path, labels}
 
@@ -29,14 +29,6 @@ entry_at strands (e ∷ es) x = if bytes_eq x (path_of strands e.0.items) then S
 -- an absent path has zero
 abbrev pub vector_of : {E : Type 0} → Ring E → List ℕ → List (ArrayVec ℕ × E) → Vector E
 vector_of r strands es x = unwrap_or (entry_at strands es x) r.zero
-
--- a value is kept unless it is zero
-abbrev pub kept_of : {E : Type 0} → Held E → E → Option E
-kept_of h v = if h.is_zero v then None else Some v
-
--- whether a path is one of these
-abbrev pub among : Path → List Path → Bool
-among x paths = list_any (λ y. bytes_eq y x) paths
 
 -- the path with each of n labels from u on at place k
 abbrev pub row_from : ℕ → ℕ → ℕ → Path → List Path
@@ -64,10 +56,6 @@ targets_of count k strands es = rows_of_first count k strands es (paths_of stran
 -- the labels of each of these paths
 abbrev pub items_of : List (ArrayVec ℕ) → List Path
 items_of ps = map (λ p. p.items) ps
-
--- what is there once these paths are done, of the vector v
-abbrev pub gathered : {E : Type 0} → Held E → Vector E → List Path → Path → Option E
-gathered h v done x = if among x done then kept_of h (v x) else None
 
 -- the keys are in the order of lists of labels, and none stands twice
 abbrev pub AreOrdered : {E : Type 0} → List (ArrayVec ℕ × E) → Type 0

@@ -1,11 +1,11 @@
 -- On combs a state has no shape, and every gap is a pair.
-use Rattle.std.proofs.Common.{◌≡◌, ℕ, ◌<◌, true, List, [], ◌∷◌, refl, arith}
+use Rattle.std.proofs.Common.{◌≡◌, ℕ, ◌<◌, true, refl, arith}
 use Rattle.std.specs.Prelude.{◌&&◌, nat_lt}
 use Rattle.std.proofs.lemmas.Bool.Decides.{nat_tests}
 use Rattle.symbol_table.specs.Symbols.{Symbols}
 use Rattle.word_runs.specs.Told.{AreShapes}
 use Rattle.word_runs.proofs.EachLemmas.{all_const}
-use Rattle.comb_run.specs.Evaluated.{State, comb_told}
+use Rattle.comb_run.specs.Evaluated.{comb_told}
 
 both_yes : (k n : ℕ) → 0 < k → k < n → (nat_lt 0 k && nat_lt k n) ≡ true
 both_yes k n low high = rw (first, second) refl

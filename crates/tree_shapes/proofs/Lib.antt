@@ -7,7 +7,7 @@ pub mod ReaderLemmas
 pub mod RotationLemmas
 pub mod SettleLemmas
 mod SettleLinks
-mod TestLemmas
+pub mod TestLemmas
 mod TurnLinks
 mod TurnLinksLeft
 mod Worked

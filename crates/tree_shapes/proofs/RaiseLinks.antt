@@ -1,15 +1,12 @@
 -- A raise of links.
-use Rattle.std.proofs.Common.{◌≡◌, ◌≢◌, ℕ, ◌+◌, ◌<◌, ◌≤◌, refl, ap, sym, ◌∙◌, subst, ◌⊎◌, inl, inr, arith}
-use Rattle.std.specs.Prelude.{nat_lt}
+use Rattle.std.proofs.Common.{◌≡◌, ◌≢◌, ℕ, ◌+◌, ◌<◌, ◌≤◌, ap, sym, ◌∙◌, subst, ◌⊎◌, inl, inr, arith}
 use Rattle.std.proofs.lemmas.Bool.Decides.{eqb_tells}
-use Rattle.std.proofs.lemmas.Bool.{cond-false}
 use Rattle.tree_shapes.specs.declared.limits.TheConstants.{STRAND_LIMIT}
 use Rattle.tree_shapes.specs.Outlines.{Outline, Tip, Branch, size, top_gap, raise_at}
 use Rattle.tree_shapes.specs.Contexts.{Around, Hole, OnLeft, OnRight, fill, place, on_left, on_right}
 use Rattle.tree_shapes.specs.Contexts.{IsRaisedLeft, IsRaisedRight}
 use Rattle.tree_shapes.proofs.ContextLemmas.{size_above, fill_size, place_below}
-use Rattle.tree_shapes.proofs.RotationLemmas.{raised_is}
-use Rattle.tree_shapes.proofs.TestLemmas.{not_less}
+use Rattle.tree_shapes.proofs.RotationLemmas.{raised_is, stays}
 use Rattle.tree_shapes.specs.Links.{Rows, grown, link_to, Linked, AreLinks, IsShape, Ready, outline_in, TurnsRight, TurnsLeft}
 use Rattle.tree_shapes.proofs.TurnLinks.{up_in, up_range, link_range, grown_is, turned_right, right_link}
 use Rattle.tree_shapes.proofs.TurnLinksLeft.{turned_left, right_link as right_link_left}
@@ -33,11 +30,6 @@ up_out (OnRight l a) s i up out x above below = up_out a s (i + size l) (i + siz
 top_parent : (t : Outline) (k : ℕ) (rows : Rows) → 0 < k → Linked rows t 0 0 → k ≡ top_gap t 0 → rows.parent k ≡ 0
 top_parent Tip k rows low is e = absurd (omega (arith, e))
 top_parent (Branch l r) k rows low is e = ap rows.parent e ∙ is.2
-
-pub stays : (t : Outline) (k : ℕ) → k ≡ top_gap t 0 → raise_at k t 0 ≡ t
-stays Tip k e = refl
-stays (Branch l r) k e =
-    cond-false (nat_lt k (0 + size l)) _ _ (not_less k (0 + size l) (omega (arith, e))) ∙ cond-false (nat_lt (0 + size l) k) _ _ (not_less (0 + size l) k (omega (arith, e)))
 
 module _ (n : ℕ) (few : n ≤ STRAND_LIMIT) (rows : Rows) (t : Outline) (is : AreLinks n rows t) (k : ℕ) (low : 0 < k) (high : k < size t) where
   abbrev p : ℕ

@@ -1,5 +1,6 @@
 -- A rotation by gap number is one at a place of the tree.
-use Rattle.std.proofs.Common.{◌≡◌, ℕ, ◌+◌, ◌<◌, refl, ap, arith, inl, inr, ◌⊎◌}
+use Rattle.std.proofs.Common.{◌≡◌, ℕ, ◌+◌, ◌<◌, nat_lt, refl, ap, ◌∙◌, arith, inl, inr, ◌⊎◌}
+use Rattle.std.proofs.lemmas.Bool.{cond-false}
 use Rattle.std.proofs.lemmas.Bool.Decides.{eqb_tells}
 use Rattle.tree_shapes.specs.Outlines.{Outline, Tip, Branch, size}
 use Rattle.tree_shapes.specs.Outlines.{top_gap, turn_right, turn_left, raise_at}
@@ -72,3 +73,9 @@ raised_is k (Branch l r) i above below off =
         ]
       ]
     ]
+
+-- at the top nothing is raised
+pub stays : (t : Outline) (k : ℕ) → k ≡ top_gap t 0 → raise_at k t 0 ≡ t
+stays Tip k e = refl
+stays (Branch l r) k e =
+    cond-false (nat_lt k (0 + size l)) _ _ (not_less k (0 + size l) (omega (arith, e))) ∙ cond-false (nat_lt (0 + size l) k) _ _ (not_less (0 + size l) k (omega (arith, e)))

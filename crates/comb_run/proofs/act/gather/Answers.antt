@@ -8,7 +8,8 @@ use Rattle.comb_laws.specs.Operators.{kernel_of}
 use Rattle.word_runs.specs.declared.fault.StepFault.TheVariants.{TooLarge}
 use Rattle.comb_run.specs.Evaluated.{acted_at}
 use Rattle.comb_run.specs.Entries.{path_of, vector_of, items_of, entry_at}
-use Rattle.comb_run.proofs.Gather.{gathered_step, items_more, fits_step, among_item, vector_members}
+use Rattle.amp_store.proofs.GatherLemmas.{gathered_step, fits_step}
+use Rattle.comb_run.proofs.Gather.{items_more, among_item, vector_members}
 use Rattle.comb_run.proofs.ActLemmas.{on_path}
 use Rattle.comb_run.proofs.EntryLemmas.{put_there}
 use Rattle.comb_run.proofs.KeyLemmas.{path_keyed, unit_same}

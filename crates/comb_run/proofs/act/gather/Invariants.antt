@@ -5,7 +5,8 @@ use Rattle.comb_laws.specs.Operators.{acted}
 use Rattle.comb_run.specs.Operations.{kernel_at}
 use Rattle.comb_laws.specs.Operators.{kernel_of}
 use Rattle.comb_run.specs.Evaluated.{acted_at}
-use Rattle.comb_run.specs.Entries.{vector_of, items_of, entry_at, gathered, among}
+use Rattle.comb_run.specs.Entries.{vector_of, items_of, entry_at}
+use Rattle.amp_store.specs.Gathered.{gathered, among}
 use Rattle.comb_run.specs.Kept.{AreKept}
 use Rattle.comb_run.proofs.act.gather.Given as goal
 

@@ -1,0 +1,10 @@
+pub mod AdmissibleLemmas
+pub mod CombLemmas
+pub mod EndLemmas
+pub mod KeyLemmas
+pub mod RowLemmas
+pub mod StateLemmas
+pub mod TermLemmas
+pub mod RotationLemmas
+pub mod ValueLemmas
+mod Worked

@@ -1,0 +1,76 @@
+use Rattle.std.proofs.Common.{◌≡◌, ◌≤◌, ◌++◌, ◌+◌, List, ℕ, ap, sym, ◌∙◌, arith, length, take, take_all}
+use Rattle.symbol_table.specs.Category.{draft_symbols}
+use Rattle.symbol_table.specs.Draft.{given}
+use Rattle.amp_store.specs.Amplitudes.{amplitude_of}
+use Rattle.recouple.specs.Rotations.{IsKey}
+use Rattle.recouple.specs.Raises.{raised, raised_at}
+use Rattle.recouple.specs.Targets.{targets_of, row_of}
+use Rattle.amp_store.specs.Gathered.{among, gathered}
+use Rattle.amp_store.proofs.GatherLemmas.{fits_both}
+use Rattle.recouple.proofs.EndLemmas.{entry_has, targets_one, row_keys, keys_both, raised_known, raised_over, fits_all, fuses_low}
+use Rattle.recouple.proofs.raising.raise_amps.Goals as goal
+
+pub raise_row-requires-clause-key : goal.raise_row-requires-clause-key
+raise_row-requires-clause-key g c =
+    let e : List ℕ × g.row.R-Elem.Denot = (c.entry.result.0.now.items, c.entry.result.1.now) in
+    let has = entry_has c.args.amps.now c.loop-place.place e c.entry.ensures in
+    c.requires.amps.keys c.entry.result.0.now.items has.0 has.1
+
+pub loop-place-preserved : goal.loop-place-preserved
+loop-place-preserved g c =
+    let r = g.R.StarRing.ring c.args.category.now.ring in
+    let s = draft_symbols r g.R.StarRing.held c.args.category.now in
+    let strands = c.args.strands.now in
+    let rotation = c.args.rotation.now in
+    let es = c.args.amps.now in
+    let v = amplitude_of r es in
+    let key = c.entry.result.0.now.items in
+    let e : List ℕ × g.row.R-Elem.Denot = (c.entry.result.0.now.items, c.entry.result.1.now) in
+    let has = entry_has es c.loop-place.place e c.entry.ensures in
+    let is : IsKey s.count (length strands) key = c.requires.amps.keys key has.0 has.1 in
+    let done = targets_of rotation s.count (take c.loop-place.place es) in
+    let more : targets_of rotation s.count (take (c.loop-place.place + 1) es) ≡ done ++ row_of rotation s.count key = targets_one rotation s.count es c.loop-place.place e c.entry.ensures in
+    record {
+      entries = λ x. c.in_ok-raise_row.ensures.entries done c.loop-place.invariant.entries x ∙ ap (λ l. gathered g.R.StarRing.held (raised s strands rotation v) l x) (sym more);
+      fits = λ x h. fits_both (raised_at s strands rotation v) done (row_of rotation s.count key) c.loop-place.invariant.fits c.in_ok-raise_row.ensures.fits x (ap (among x) (sym more) ∙ h);
+      keys = λ x h. keys_both s.count (length strands) done (row_of rotation s.count key) c.loop-place.invariant.keys (λ y i. row_keys s.count (length strands) rotation key y c.requires.rotation is i) x (ap (among x) (sym more) ∙ h);
+    }
+
+pub returns-clause-amplitudes : goal.returns-clause-amplitudes
+returns-clause-amplitudes g c =
+    let r = g.R.StarRing.ring c.args.category.now.ring in
+    let laws = g.met.R.StarRing.laws c.args.category.now.ring in
+    let s = draft_symbols r g.R.StarRing.held c.args.category.now in
+    let strands = c.args.strands.now in
+    let rotation = c.args.rotation.now in
+    let es = c.args.amps.now in
+    let end : length es ≤ c.loop-place.place = omega (arith, c.len-place-end.ensures.len, c.loop-place-test.false) in
+    let all : targets_of rotation s.count (take c.loop-place.place es) ≡ targets_of rotation s.count es = ap (targets_of rotation s.count) (take_all c.loop-place.place es end) in
+    raised_known laws (given c.args.category.now) (λ a b u. fuses_low c.args.category.now.rules a b u) strands rotation c.requires.rotation es c.requires.amps c.loop-place.new
+    (λ x. c.loop-place.invariant.entries x ∙ ap (λ l. gathered g.R.StarRing.held (raised s strands rotation (amplitude_of r es)) l x) all)
+
+pub returns-clause-over : goal.returns-clause-over
+returns-clause-over g c =
+    let r = g.R.StarRing.ring c.args.category.now.ring in
+    let laws = g.met.R.StarRing.laws c.args.category.now.ring in
+    let s = draft_symbols r g.R.StarRing.held c.args.category.now in
+    let strands = c.args.strands.now in
+    let rotation = c.args.rotation.now in
+    let es = c.args.amps.now in
+    let end : length es ≤ c.loop-place.place = omega (arith, c.len-place-end.ensures.len, c.loop-place-test.false) in
+    let all : targets_of rotation s.count (take c.loop-place.place es) ≡ targets_of rotation s.count es = ap (targets_of rotation s.count) (take_all c.loop-place.place es end) in
+    raised_over laws (given c.args.category.now) (λ a b u. fuses_low c.args.category.now.rules a b u) strands rotation c.requires.rotation es c.requires.amps c.loop-place.new
+    (λ x. c.loop-place.invariant.entries x ∙ ap (λ l. gathered g.R.StarRing.held (raised s strands rotation (amplitude_of r es)) l x) all)
+    (λ x h. c.loop-place.invariant.keys x (ap (among x) all ∙ h))
+
+pub returns-clause-fits : goal.returns-clause-fits
+returns-clause-fits g c =
+    let r = g.R.StarRing.ring c.args.category.now.ring in
+    let laws = g.met.R.StarRing.laws c.args.category.now.ring in
+    let s = draft_symbols r g.R.StarRing.held c.args.category.now in
+    let strands = c.args.strands.now in
+    let rotation = c.args.rotation.now in
+    let es = c.args.amps.now in
+    let end : length es ≤ c.loop-place.place = omega (arith, c.len-place-end.ensures.len, c.loop-place-test.false) in
+    let all : targets_of rotation s.count (take c.loop-place.place es) ≡ targets_of rotation s.count es = ap (targets_of rotation s.count) (take_all c.loop-place.place es end) in
+    fits_all laws (given c.args.category.now) (λ a b u. fuses_low c.args.category.now.rules a b u) strands rotation c.requires.rotation es c.requires.amps (λ x h. c.loop-place.invariant.fits x (ap (among x) all ∙ h))

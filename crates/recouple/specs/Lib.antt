@@ -1,0 +1,4 @@
+pub mod Raises
+pub mod States
+pub mod Targets
+pub mod Rotations

@@ -1,0 +1,49 @@
+//! Keys before and after a raise.
+
+ghost use Rattle.std.specs.Prelude.{◌≡◌, ◌<◌, ◌-◌, length, slice_index, slice_set};
+ghost use Rattle.recouple.specs.Rotations.{IsPlace, before, after};
+
+use crate::rotation::Rotation;
+use amp_store::Key;
+
+/// The same key again.
+pub(crate) fn copy_of(key: &Key) -> Key
+    ensures { result.items ≡ key.now.items }
+{
+    let mut copied = Key::new();
+    for label in key.as_slice() {
+        copied.push(*label);
+    }
+    copied
+}
+
+/// The key with the label of the gap `from` at the gap `to`, and then another one at `from`.
+fn moved(key: &Key, from: u8, to: u8, label: u8) -> Key
+    requires from { IsPlace (length key.now.items) from }
+    requires to { IsPlace (length key.now.items) to }
+    ensures { result.items ≡ slice_set (slice_set key.now.items (to - 1) (slice_index key.now.items (from - 1))) (from - 1) label }
+{
+    let mut changed = copy_of(key);
+    let labels = changed.as_mut_slice();
+    labels[to as usize - 1] = labels[from as usize - 1];
+    labels[from as usize - 1] = label;
+    changed
+}
+
+/// The old key at which a term of a new key's sum stands, with this label at the node.
+pub(crate) fn before(key: &Key, rotation: &Rotation, label: u8) -> Key
+    requires node { IsPlace (length key.now.items) rotation.now.node }
+    requires parent { IsPlace (length key.now.items) rotation.now.parent }
+    ensures { result.items ≡ before rotation.now key.now.items label }
+{
+    moved(key, rotation.node, rotation.parent, label)
+}
+
+/// The new key to which an old one adds a term, with this label at the parent.
+pub(crate) fn after(key: &Key, rotation: &Rotation, label: u8) -> Key
+    requires node { IsPlace (length key.now.items) rotation.now.node }
+    requires parent { IsPlace (length key.now.items) rotation.now.parent }
+    ensures { result.items ≡ after rotation.now key.now.items label }
+{
+    moved(key, rotation.parent, rotation.node, label)
+}

@@ -1,0 +1,16 @@
+//! States on fusion trees, and recoupling.
+//!
+//! Glossary:
+//! - *state*: the labels of the strands, the shape of the tree and the amplitudes by the labels of its nodes
+//!   (`specs/States.antt`); what it stands for is a comb vector.
+//! - *rotation*: a node, its parent and the tops of the three subtrees under them (`specs/Rotations.antt`).
+//! - *raise*: the amplitudes after a node was raised over its parent (`specs/Raises.antt`).
+#![tactic(auto)]
+
+mod keys;
+mod raising;
+mod rotation;
+mod state;
+mod terms;
+
+pub use state::TreeState;

@@ -1,0 +1,125 @@
+//! The terms of a new amplitude.
+
+ghost use Rattle.std.specs.Prelude.{◌≡◌, ◌<◌, ◌+◌, ◌-◌, false, IsTrue, IfOk, All, length, slice_index, if◌then◌else◌};
+ghost use Rattle.ring_laws.specs.Stated.{Gives};
+ghost use Rattle.symbol_table.specs.Category.{symbols};
+ghost use Rattle.symbol_table.specs.Draft.{f_index_admissible, given};
+ghost use Rattle.symbol_table.specs.Index.{AreSixLabels};
+ghost use Rattle.amp_store.specs.Amplitudes.{amplitude_of};
+ghost use Rattle.recouple.specs.Rotations.{IsKey, IsRotation, label_at as spec_label_at, from_left};
+ghost use Rattle.recouple.specs.Raises.{AreOver, factor as spec_factor, has_factor, raise_step, raised_at as spec_raised_at};
+
+use crate::keys::before;
+use crate::rotation::{Rotation, label_at};
+use amp_store::{Amps, Key};
+use ring_laws::{Overflow, StarRing, add_product};
+use symbol_table::{Category, FIndex};
+
+/// The index of the factor from the label t at the node: F where the node was a left child, else H.
+fn index_of(strands: &[u8], rotation: &Rotation, key: &Key, t: u8) -> FIndex
+    requires rotation { IsRotation (length strands.now) rotation.now }
+    requires key { length strands.now ≡ length key.now.items + 1 }
+    ensures a { result.a ≡ spec_label_at strands.now key.now.items rotation.now.first }
+    ensures b { result.b ≡ spec_label_at strands.now key.now.items rotation.now.second }
+    ensures c { result.c ≡ spec_label_at strands.now key.now.items rotation.now.third }
+    ensures d { result.d ≡ slice_index key.now.items (rotation.now.node - 1) }
+    ensures e { result.e ≡ (if from_left rotation.now then t else slice_index key.now.items (rotation.now.parent - 1)) }
+    ensures f { result.f ≡ (if from_left rotation.now then slice_index key.now.items (rotation.now.parent - 1) else t) }
+{
+    let labels = key.as_slice();
+    let a = label_at(strands, labels, rotation.first);
+    let b = label_at(strands, labels, rotation.second);
+    let c = label_at(strands, labels, rotation.third);
+    let d = labels[rotation.node as usize - 1];
+    let u = labels[rotation.parent as usize - 1];
+    if rotation.node < rotation.parent {
+        FIndex {
+            a,
+            b,
+            c,
+            d,
+            e: t,
+            f: u,
+        }
+    } else {
+        FIndex {
+            a,
+            b,
+            c,
+            d,
+            e: u,
+            f: t,
+        }
+    }
+}
+
+/// The term of the label t in the amplitude of a new key, added to a sum where the old amplitude isn't zero and the
+/// factor is admissible.
+fn raise_term<R: StarRing>(
+    category: &Category<R>,
+    strands: &[u8],
+    rotation: &Rotation,
+    amps: &Amps<R>,
+    key: &Key,
+    t: u8,
+    sum: &R::Elem,
+) -> Result<R::Elem, Overflow>
+    requires rotation { IsRotation (length strands.now) rotation.now }
+    requires strands { All (λ s. s < category.now.rules.count) strands.now }
+    requires amps { AreOver (R.ring category.now.ring) category.now.rules.count (length strands.now) amps.now }
+    requires key { IsKey category.now.rules.count (length strands.now) key.now.items }
+    requires label { t < category.now.rules.count }
+    requires sum { IsTrue ((R.ring category.now.ring).member sum.now) }
+    ensures value { let c = symbols R.StarRing category.now in
+        Gives result (raise_step c strands.now rotation.now (amplitude_of c.ring amps.now) key.now.items t sum.now) }
+    ensures member { IfOk result (λ z. IsTrue ((R.ring category.now.ring).member z)) }
+{
+    let Some(old) = amps.get(&before(key, rotation, t)) else {
+        return Ok(category.ring().copy(sum));
+    };
+    let at = index_of(strands, rotation, key, t);
+    if !at.is_admissible(category.rules()) {
+        return Ok(category.ring().copy(sum));
+    }
+    let factor = factor_at(category, rotation, &at);
+    add_product(category.ring(), sum, &factor, old)
+}
+
+/// F at an index where the node was a left child, else H.
+fn factor_at<R: StarRing>(category: &Category<R>, rotation: &Rotation, at: &FIndex) -> R::Elem
+    requires { IsTrue (f_index_admissible (given category.now) at.now) }
+    ensures value { let c = symbols R.StarRing category.now in
+        result ≡ (if from_left rotation.now then c.f at.now.a at.now.b at.now.c at.now.d at.now.e at.now.f
+        else c.h at.now.a at.now.b at.now.c at.now.d at.now.f at.now.e) }
+    ensures member { IsTrue ((R.ring category.now.ring).member result) }
+{
+    if rotation.node < rotation.parent {
+        category.f(at)
+    } else {
+        category.h(at)
+    }
+}
+
+/// The amplitude of a new key.
+#[tactic(auto, using(ring_laws::proofs::StatedLemmas::steps_one, ring_laws::proofs::StatedLemmas::steps_none))]
+pub(crate) fn raised_at<R: StarRing>(
+    category: &Category<R>,
+    strands: &[u8],
+    rotation: &Rotation,
+    amps: &Amps<R>,
+    key: &Key,
+) -> Result<R::Elem, Overflow>
+    requires rotation { IsRotation (length strands.now) rotation.now }
+    requires strands { All (λ s. s < category.now.rules.count) strands.now }
+    requires amps { AreOver (R.ring category.now.ring) category.now.rules.count (length strands.now) amps.now }
+    requires key { IsKey category.now.rules.count (length strands.now) key.now.items }
+    ensures value { let c = symbols R.StarRing category.now in
+        Gives result (spec_raised_at c strands.now rotation.now (amplitude_of c.ring amps.now) key.now.items) }
+    ensures member { IfOk result (λ z. IsTrue ((R.ring category.now.ring).member z)) }
+{
+    let mut sum = category.ring().zero();
+    for t in 0..category.rules().count() {
+        sum = raise_term(category, strands, rotation, amps, key, t, &sum)?;
+    }
+    Ok(sum)
+}

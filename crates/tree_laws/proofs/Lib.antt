@@ -1,0 +1,10 @@
+pub mod Coherence
+pub mod EntryLemmas
+pub mod Equations
+pub mod Factor
+pub mod Isometry
+pub mod Keys
+pub mod Pairs
+pub mod WeightLemmas
+pub mod Whole
+mod Worked

@@ -1,0 +1,11 @@
+use Rattle.symbol_table.specs.Category.{draft_symbols}
+use Rattle.tree_laws.proofs.WeightLemmas.{weight_is}
+use Rattle.tree_laws.proofs.laws.weights.Goals as goal
+
+pub returns : goal.returns
+returns g c =
+    let draft = c.args.category.now in
+    let laws = g.met.R.StarRing.laws draft.ring in
+    let s = draft_symbols (g.R.StarRing.ring draft.ring) g.R.StarRing.held draft in
+    let all = c.all_labels.ensures in
+    weight_is s laws all.proper all.equations all.unit all.weighted
