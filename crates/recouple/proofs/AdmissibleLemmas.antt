@@ -22,7 +22,7 @@ use Rattle.recouple.specs.Raises.{factor, has_factor, raise_term, raised}
 use Rattle.recouple.specs.declared.rotation.Rotation.{Rotation}
 use Rattle.recouple.proofs.RotationLemmas.{spot_of, rotation_at, left_rotation, right_rotation, rotation_by, rotation_valid}
 
-and_true : (b c : Bool) → (b && c) ≡ true → (b ≡ true) × (c ≡ true)
+pub and_true : (b c : Bool) → (b && c) ≡ true → (b ≡ true) × (c ≡ true)
 and_true true c h = (refl, h)
 and_true false c h = absurd (cc)
 

@@ -71,7 +71,7 @@ value_by r v w o true false h e = absurd (cc)
 value_by r v w o false true h e = absurd (cc)
 value_by r v w o false false h e = e
 
-value_is : {E : Type 0} (r : Ring E) (es : List (List ℕ × E)) (key : List ℕ) → value_at r es key ≡ amplitude_of r es key
+pub value_is : {E : Type 0} (r : Ring E) (es : List (List ℕ × E)) (key : List ℕ) → value_at r es key ≡ amplitude_of r es key
 value_is r [] key = refl
 value_is r (e ∷ es) key = value_by r e.1 (value_at r es key) (amplitude_at es key) (bytes_eq e.0 key) (bytes_eq key e.0) (eq_turned e.0 key) (value_is r es key)
 
@@ -111,7 +111,7 @@ module _ {E : Type 0} (c : Symbols E) (strands : List ℕ) (a : Around) (A B C :
   i = place a 0
 
   -- the new amplitudes of a node that was a left child
-  left_values : (n m : ℕ) (key : Key) → m ≡ n → i + (size A + (size B + size C)) ≤ n + 1
+  pub left_values : (n m : ℕ) (key : Key) → m ≡ n → i + (size A + (size B + size C)) ≤ n + 1
       → amplitude_of c.ring new ≡ raised c strands (rotation_at A B C (i + size A) ((i + size A) + size B) i (i + size A) ((i + size A) + size B)) (amplitude_of c.ring old)
       → values c.ring m new key ≡ raised_left c A B C i strand (values c.ring n old) key
   left_values n m key same fits is =
@@ -135,7 +135,7 @@ module _ {E : Type 0} (c : Symbols E) (strands : List ℕ) (a : Around) (A B C :
       (ap (amplitude_of c.ring old) (turned_list n k p key e rotation refl refl k_low k_high p_low p_high) ∙ sym (value_is c.ring old (listed 1 n (turned k p key e)))))))
 
   -- and of one that was a right child
-  right_values : (n m : ℕ) (key : Key) → m ≡ n → i + (size A + (size B + size C)) ≤ n + 1
+  pub right_values : (n m : ℕ) (key : Key) → m ≡ n → i + (size A + (size B + size C)) ≤ n + 1
       → amplitude_of c.ring new ≡ raised c strands (rotation_at A B C ((i + size A) + size B) (i + size A) i (i + size A) ((i + size A) + size B)) (amplitude_of c.ring old)
       → values c.ring m new key ≡ raised_right c A B C i strand (values c.ring n old) key
   right_values n m key same fits is =

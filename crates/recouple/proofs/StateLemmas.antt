@@ -1,5 +1,5 @@
 -- A raise of a whole state.
-use Rattle.std.proofs.Common.{◌≡◌, ℕ, ◌<◌, List, Some, length, ◌+◌, ◌≤◌, false, arith, ◌∙◌, subst}
+use Rattle.std.proofs.Common.{◌≡◌, ℕ, ◌<◌, List, Some, length, ◌+◌, ◌≤◌, false, arith, ◌∙◌, subst, ap, sym, refl}
 use Rattle.std.specs.Prelude.{Result, Err}
 use Rattle.ring_laws.specs.Ring.{RingLaws}
 use Rattle.symbol_table.specs.Symbols.{Symbols}
@@ -13,6 +13,11 @@ use Rattle.recouple.specs.declared.rotation.Rotation.{Rotation}
 use Rattle.recouple.proofs.RotationLemmas.{rotation_valid, raised_size}
 use Rattle.recouple.proofs.AdmissibleLemmas.{after_rotation, comes_from}
 use Rattle.recouple.proofs.CombLemmas.{comb_kept}
+use Rattle.recouple.proofs.EndLemmas.{entry_has}
+use Rattle.recouple.proofs.SomeLemmas.{gone}
+use Rattle.tree_shapes.proofs.RotationLemmas.{raised_is}
+use Rattle.amp_store.proofs.EditLemmas.{nonzero_in}
+use Rattle.std.specs.Prelude.{slice_get, true, ◌≢◌, [], ◌∷◌}
 
 abbrev the_err : (A F : Type 0) → F → Result A F
 the_err A F x = Err x
@@ -45,3 +50,20 @@ module _ {E : Type 0} (c : Symbols E) (s : State E) (is : IsStateOf c s) (k : �
       → amplitude_of c.ring new ≡ raised c s.strands rotation (amplitude_of c.ring s.amps) → comb c (after new) ≡ comb c s
   comb_after laws proper has new old_order new_order over equal =
       comb_kept c laws proper has s.strands k s.shape rotation s.amps new is.leaves old_order.ordered new_order.ordered is.over over there equal low high (rotation_valid s.shape k rotation low high there).1
+
+  -- where there was an amplitude there is one
+  pub some_after : RingLaws c.ring c.held → IsProper c → HasEquations c → (new : List (List ℕ × E)) → AreAmplitudes c.held s.amps
+      → amplitude_of c.ring new ≡ raised c s.strands rotation (amplitude_of c.ring s.amps) → s.amps ≢ [] → new ≢ []
+  some_after laws proper equations new order equal some none = some_by s.amps refl
+    where
+      some_by : (es : List (List ℕ × E)) → s.amps ≡ es → ⊥
+      some_by [] e = some e
+      some_by (d ∷ ds) e =
+          let has = entry_has s.amps 0 d (ap (λ l. slice_get l 0) e) in
+          let zero : has.0 ≡ c.ring.zero =
+          gone c laws proper equations s.strands k s.shape rotation s.amps is.leaves is.over there (ap (amplitude_of c.ring) (sym none) ∙ equal) d.0 has.0 has.1 (is.admissible d.0 has.0 has.1)
+          (raise_at k s.shape 0) (raised_is k s.shape 0 low (omega arith) (rotation_valid s.shape k rotation low high there).1) in
+          let is_zero : c.held.is_zero has.0 ≡ true = ap c.held.is_zero zero ∙ (laws.is_zero_is c.ring.zero laws.zero_is).1 refl in
+          let nonzero : c.held.is_zero has.0 ≡ false = nonzero_in c.held s.amps d.0 has.0 order.nonzero has.1 in
+          let both : true ≡ false = sym is_zero ∙ nonzero in
+          absurd (cc)

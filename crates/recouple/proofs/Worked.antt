@@ -4,7 +4,8 @@ use Rattle.std.specs.Prelude.{◌≡◌, ◌+ℤ◌, true, [], ◌∷◌, Some, 
 use Rattle.ring_laws.specs.Ring.{Ring}
 use Rattle.symbol_table.proofs.Fib.{Whole5, conjugate5, fib, held5, num, numbered, plus5, ring5, times5, whole}
 use Rattle.symbol_table.specs.Symbols.{Symbols, symbols_of}
-use Rattle.tree_shapes.specs.Outlines.{Outline, Tip, Branch}
+use Rattle.tree_shapes.specs.Labelled.{Labelled, Strand, Joined, leaves, node_labels}
+use Rattle.tree_shapes.specs.Outlines.{Outline, Tip, Branch, outline_of, with_labels}
 use Rattle.recouple.specs.Rotations.{after, before, rotation_of}
 use Rattle.recouple.specs.States.{State, comb, raise_of, stated_raise}
 use Rattle.recouple.specs.Targets.{row_of, targets_of}
@@ -99,3 +100,10 @@ fib_state = record { strands = 1 ∷ 1 ∷ 1 ∷ []; shape = two_right; amps = (
 
 stands_for : ((comb fib fib_state (0 ∷ 1 ∷ 0 ∷ 1 ∷ []) ≡ num (pos 1) (pos 0) (negsuc 0) (negsuc 0)) × (comb fib fib_state (0 ∷ 1 ∷ 1 ∷ 1 ∷ []) ≡ num (pos 1) (pos 0) (pos 1) (pos 1)) × (comb fib fib_state (0 ∷ 1 ∷ 1 ∷ 0 ∷ []) ≡ whole 0))
 stands_for = (refl, refl, refl)
+
+-- a tree with labels of its own at each place is its outline with its own labels
+abbrev bushy : Labelled
+bushy = Joined (Joined (Strand 1) (Strand 2) 5) (Joined (Strand 3) (Joined (Strand 4) (Strand 6) 7) 8) 9
+
+own : with_labels (outline_of bushy) (leaves bushy) (node_labels bushy) ≡ bushy
+own = refl

@@ -4,13 +4,16 @@
 //! - *state*: the labels of the strands, the shape of the tree and the amplitudes by the labels of its nodes
 //!   (`specs/States.antt`); what it stands for is a comb vector.
 //! - *rotation*: a node, its parent and the tops of the three subtrees under them (`specs/Rotations.antt`).
+//! - *start state*: amplitude one at a tree's own labels; it stands for the tree's start vector (`comb_laws`).
 //! - *raise*: the amplitudes after a node was raised over its parent (`specs/Raises.antt`).
 #![tactic(auto)]
 
+mod begin;
 mod keys;
 mod raising;
 mod rotation;
 mod state;
 mod terms;
 
+pub use begin::start;
 pub use state::TreeState;

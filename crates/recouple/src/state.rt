@@ -1,4 +1,4 @@
-ghost use Rattle.std.specs.Prelude.{◌≡◌, ◌+◌, ◌<◌, ℕ, List, length, true, Some, None, is_some, OnOk, OnErr, IsErrOf};
+ghost use Rattle.std.specs.Prelude.{◌≡◌, ◌≢◌, [], ◌+◌, ◌<◌, ℕ, List, length, true, Some, None, is_some, OnOk, OnErr, IsErrOf};
 ghost use Rattle.symbol_table.specs.Category.{symbols};
 ghost use Rattle.tree_shapes.specs.Outlines.{size, raise_at};
 ghost use Rattle.amp_store.specs.Amplitudes.{amplitude_at, amplitude_of};
@@ -77,11 +77,12 @@ impl<R: StarRing> TreeState<R> {
         &self.amps
     }
 
-    /// Raises a node over its parent.
+    /// Raises a node over its parent. What the state stands for is kept, and where it had an amplitude it has one.
     ///
-    /// Stops with [`StepFault::TooLarge`] exactly where an item of the evaluation doesn't fit. Refused, the state is unchanged.
+    /// Stops with [`StepFault::TooLarge`] exactly where an item of the evaluation doesn't fit. Refused, the state is
+    /// unchanged. The node is at a gap of the shape, and the state is one of the category.
     pub fn raise(&mut self, category: &Category<R>, k: u8) -> Result<(), StepFault>
-        requires some { 0 < k }
+        requires low { 0 < k }
         requires gap { k < size self.old.shape }
         requires of { IsStateOf (symbols R.StarRing category.now) self.old }
         ensures strands { OnOk result (self.new.strands ≡ self.old.strands) }
@@ -96,6 +97,7 @@ impl<R: StarRing> TreeState<R> {
         ensures of { OnOk result (IsStateOf (symbols R.StarRing category.now) self.new) }
         ensures keeps { let c = symbols R.StarRing category.now in
             OnOk result (comb c self.new ≡ comb c self.old) }
+        ensures some { OnOk result (self.old.amps ≢ [] → self.new.amps ≢ []) }
     {
         // What the symbols obey at all labels.
         all_labels(category);

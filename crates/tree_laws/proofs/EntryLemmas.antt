@@ -33,7 +33,7 @@ listed_same n a b h =
     (λ j l. let below : j < n = omega (arith, length-listed 1 n a) in
     at_listed 1 n a j below ∙ (h (1 + j) (omega arith) (omega arith) ∙ sym (at_listed 1 n b j below)))
 
-listed_back : (n : ℕ) (key : List ℕ) → length key ≡ n → listed 1 n (labels_of key) ≡ key
+pub listed_back : (n : ℕ) (key : List ℕ) → length key ≡ n → listed 1 n (labels_of key) ≡ key
 listed_back n key e =
     same_number_lists _ _ (length-listed 1 n (labels_of key) ∙ sym e)
     (λ j l. let below : j < n = omega (arith, length-listed 1 n (labels_of key)) in

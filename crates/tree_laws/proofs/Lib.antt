@@ -2,6 +2,7 @@ pub mod Coherence
 pub mod EntryLemmas
 pub mod Equations
 pub mod Factor
+pub mod Inverse
 pub mod Isometry
 pub mod Keys
 pub mod Pairs

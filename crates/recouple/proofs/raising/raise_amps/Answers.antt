@@ -8,6 +8,7 @@ use Rattle.recouple.specs.Targets.{targets_of, row_of}
 use Rattle.amp_store.specs.Gathered.{among, gathered}
 use Rattle.amp_store.proofs.GatherLemmas.{fits_both}
 use Rattle.recouple.proofs.EndLemmas.{entry_has, targets_one, row_keys, keys_both, raised_known, raised_over, fits_all, fuses_low}
+use Rattle.recouple.proofs.raising.raise_amps.Given.{Over}
 use Rattle.recouple.proofs.raising.raise_amps.Goals as goal
 
 pub raise_row-requires-clause-key : goal.raise_row-requires-clause-key
@@ -36,41 +37,31 @@ loop-place-preserved g c =
       keys = λ x h. keys_both s.count (length strands) done (row_of rotation s.count key) c.loop-place.invariant.keys (λ y i. row_keys s.count (length strands) rotation key y c.requires.rotation is i) x (ap (among x) (sym more) ∙ h);
     }
 
+-- the targets of all keys are done
+all_done : (g : Over) (c : goal.After-in_order g)
+    → targets_of c.args.rotation.now c.args.category.now.rules.count (take c.loop-place.place c.args.amps.now) ≡ targets_of c.args.rotation.now c.args.category.now.rules.count c.args.amps.now
+all_done g c =
+    let end : length c.args.amps.now ≤ c.loop-place.place = omega (arith, c.len-place-end.ensures.len, c.loop-place-test.false) in
+    ap (targets_of c.args.rotation.now c.args.category.now.rules.count) (take_all c.loop-place.place c.args.amps.now end)
+
 pub returns-clause-amplitudes : goal.returns-clause-amplitudes
 returns-clause-amplitudes g c =
-    let r = g.R.StarRing.ring c.args.category.now.ring in
-    let laws = g.met.R.StarRing.laws c.args.category.now.ring in
-    let s = draft_symbols r g.R.StarRing.held c.args.category.now in
-    let strands = c.args.strands.now in
-    let rotation = c.args.rotation.now in
-    let es = c.args.amps.now in
-    let end : length es ≤ c.loop-place.place = omega (arith, c.len-place-end.ensures.len, c.loop-place-test.false) in
-    let all : targets_of rotation s.count (take c.loop-place.place es) ≡ targets_of rotation s.count es = ap (targets_of rotation s.count) (take_all c.loop-place.place es end) in
-    raised_known laws (given c.args.category.now) (λ a b u. fuses_low c.args.category.now.rules a b u) strands rotation c.requires.rotation es c.requires.amps c.loop-place.new
-    (λ x. c.loop-place.invariant.entries x ∙ ap (λ l. gathered g.R.StarRing.held (raised s strands rotation (amplitude_of r es)) l x) all)
+    let base = c.args.category.now.ring in
+    let s = draft_symbols (g.R.StarRing.ring base) g.R.StarRing.held c.args.category.now in
+    raised_known (g.met.R.StarRing.laws base) (given c.args.category.now) (λ a b u. fuses_low c.args.category.now.rules a b u) c.args.strands.now c.args.rotation.now c.requires.rotation
+    c.args.amps.now c.requires.amps c.loop-place.new
+    (λ x. c.loop-place.invariant.entries x ∙ ap (λ l. gathered g.R.StarRing.held (raised s c.args.strands.now c.args.rotation.now (amplitude_of s.ring c.args.amps.now)) l x) (all_done g c))
 
 pub returns-clause-over : goal.returns-clause-over
 returns-clause-over g c =
-    let r = g.R.StarRing.ring c.args.category.now.ring in
-    let laws = g.met.R.StarRing.laws c.args.category.now.ring in
-    let s = draft_symbols r g.R.StarRing.held c.args.category.now in
-    let strands = c.args.strands.now in
-    let rotation = c.args.rotation.now in
-    let es = c.args.amps.now in
-    let end : length es ≤ c.loop-place.place = omega (arith, c.len-place-end.ensures.len, c.loop-place-test.false) in
-    let all : targets_of rotation s.count (take c.loop-place.place es) ≡ targets_of rotation s.count es = ap (targets_of rotation s.count) (take_all c.loop-place.place es end) in
-    raised_over laws (given c.args.category.now) (λ a b u. fuses_low c.args.category.now.rules a b u) strands rotation c.requires.rotation es c.requires.amps c.loop-place.new
-    (λ x. c.loop-place.invariant.entries x ∙ ap (λ l. gathered g.R.StarRing.held (raised s strands rotation (amplitude_of r es)) l x) all)
-    (λ x h. c.loop-place.invariant.keys x (ap (among x) all ∙ h))
+    let base = c.args.category.now.ring in
+    let s = draft_symbols (g.R.StarRing.ring base) g.R.StarRing.held c.args.category.now in
+    raised_over (g.met.R.StarRing.laws base) (given c.args.category.now) (λ a b u. fuses_low c.args.category.now.rules a b u) c.args.strands.now c.args.rotation.now c.requires.rotation
+    c.args.amps.now c.requires.amps c.loop-place.new
+    (λ x. c.loop-place.invariant.entries x ∙ ap (λ l. gathered g.R.StarRing.held (raised s c.args.strands.now c.args.rotation.now (amplitude_of s.ring c.args.amps.now)) l x) (all_done g c))
+    (λ x h. c.loop-place.invariant.keys x (ap (among x) (all_done g c) ∙ h))
 
 pub returns-clause-fits : goal.returns-clause-fits
 returns-clause-fits g c =
-    let r = g.R.StarRing.ring c.args.category.now.ring in
-    let laws = g.met.R.StarRing.laws c.args.category.now.ring in
-    let s = draft_symbols r g.R.StarRing.held c.args.category.now in
-    let strands = c.args.strands.now in
-    let rotation = c.args.rotation.now in
-    let es = c.args.amps.now in
-    let end : length es ≤ c.loop-place.place = omega (arith, c.len-place-end.ensures.len, c.loop-place-test.false) in
-    let all : targets_of rotation s.count (take c.loop-place.place es) ≡ targets_of rotation s.count es = ap (targets_of rotation s.count) (take_all c.loop-place.place es end) in
-    fits_all laws (given c.args.category.now) (λ a b u. fuses_low c.args.category.now.rules a b u) strands rotation c.requires.rotation es c.requires.amps (λ x h. c.loop-place.invariant.fits x (ap (among x) all ∙ h))
+    fits_all (g.met.R.StarRing.laws c.args.category.now.ring) (given c.args.category.now) (λ a b u. fuses_low c.args.category.now.rules a b u) c.args.strands.now c.args.rotation.now c.requires.rotation
+    c.args.amps.now c.requires.amps (λ x h. c.loop-place.invariant.fits x (ap (among x) (all_done g c) ∙ h))
