@@ -1,5 +1,5 @@
 -- What is gathered at all targets is the whole of the new amplitudes.
-use Rattle.std.proofs.Common.{◌≡◌, ℕ, zero, suc, ◌+◌, ◌-◌, ◌<◌, ◌≤◌, Bool, true, false, ◌||◌, List, [], ◌∷◌, ◌++◌, length, get_or, take, append-nil, Option, ◌⊎◌, inl, inr, Some, None, unwrap_or, refl, ap, sym, ◌∙◌, subst, arith}
+use Rattle.std.proofs.Common.{◌≡◌, ℕ, zero, suc, ◌+◌, ◌-◌, ◌<◌, ◌≤◌, Bool, true, false, ◌||◌, List, [], ◌∷◌, ◌++◌, length, get_or, set, get_or-set_same, take, append-nil, Option, ◌⊎◌, inl, inr, Some, None, unwrap_or, refl, ap, sym, ◌∙◌, subst, arith}
 use mathlib.Core.Path.{fun_ext}
 use Rattle.std.specs.Prelude.{is_some, if◌then◌else◌, ◌&&◌, IsTrue, slice_get, nat_lt}
 use Rattle.std.specs.Str.{bytes_eq}
@@ -17,9 +17,11 @@ use Rattle.symbol_table.specs.Symbols.{Symbols, Given, symbols_of, f_admissible}
 use Rattle.amp_store.specs.Amplitudes.{amplitude_at, amplitude_of}
 use Rattle.recouple.specs.Rotations.{IsKey, IsRotation, from_left, before, after}
 use Rattle.recouple.specs.Raises.{factor, has_factor, raise_term, raise_step, raised, raised_at, AreOver}
-use Rattle.recouple.specs.Targets.{row_from, row_of, targets_of}
+use Rattle.recouple.specs.Targets.{is_first, none_below, row_from, row_here, row_of, targets_in, targets_of}
 use Rattle.amp_store.specs.Gathered.{kept_of, among, gathered}
 use Rattle.recouple.specs.declared.rotation.Rotation.{Rotation}
+use Rattle.recouple.proofs.ColumnLemmas.{after_column, none_fails, none_more}
+use Rattle.std.proofs.lemmas.List.{set-set, set-get_or}
 use Rattle.recouple.proofs.KeyLemmas.{after_before, after_key, long_before}
 use Rattle.amp_store.proofs.GatherLemmas.{same_key, or_true, one_of}
 use Rattle.recouple.proofs.ValueLemmas.{factor_off}
@@ -32,12 +34,14 @@ take_one (x ∷ xs) (suc i) e h =
     let more : suc i + 1 ≡ suc (i + 1) = omega arith in
     rw more (ap (λ l. x ∷ l) (take_one xs i e h))
 
-targets_append : {E : Type 0} (rotation : Rotation) (count : ℕ) (xs : List (List ℕ × E)) (e : List ℕ × E) → targets_of rotation count (xs ++ e ∷ []) ≡ targets_of rotation count xs ++ row_of rotation count e.0
-targets_append {E} rotation count xs e = flat_map-append (λ (d : List ℕ × E). row_of rotation count d.0) xs (e ∷ []) ∙ ap (λ l. targets_of rotation count xs ++ l) (append-nil (row_of rotation count e.0))
+targets_append : {E : Type 0} (es : List (List ℕ × E)) (rotation : Rotation) (count : ℕ) (xs : List (List ℕ × E)) (e : List ℕ × E)
+    → targets_in es rotation count (xs ++ e ∷ []) ≡ targets_in es rotation count xs ++ row_here rotation es count e.0
+targets_append {E} es rotation count xs e =
+    flat_map-append (λ (d : List ℕ × E). row_here rotation es count d.0) xs (e ∷ []) ∙ ap (λ l. targets_in es rotation count xs ++ l) (append-nil (row_here rotation es count e.0))
 
 pub targets_one : {E : Type 0} (rotation : Rotation) (count : ℕ) (es : List (List ℕ × E)) (i : ℕ) (e : List ℕ × E) → slice_get es i ≡ Some e
-    → targets_of rotation count (take (i + 1) es) ≡ targets_of rotation count (take i es) ++ row_of rotation count e.0
-targets_one rotation count es i e h = ap (targets_of rotation count) (take_one es i e h) ∙ targets_append rotation count (take i es) e
+    → targets_in es rotation count (take (i + 1) es) ≡ targets_in es rotation count (take i es) ++ row_here rotation es count e.0
+targets_one rotation count es i e h = ap (targets_in es rotation count) (take_one es i e h) ∙ targets_append es rotation count (take i es) e
 
 -- the key at a place has an amplitude
 has_by : {E : Type 0} (b : Bool) (v : E) (o : Option E) → ((w : E) × (o ≡ Some w)) → (w : E) × ((if b then Some v else o) ≡ Some w)
@@ -76,6 +80,13 @@ row_keys count n rotation y x is key h =
     let found = row_has rotation y x 0 count h in
     subst (IsKey count n) found.2 (after_key count n rotation y found.0 is key (omega (arith, found.1)))
 
+pub here_keys : {E : Type 0} (count n : ℕ) (rotation : Rotation) (es : List (List ℕ × E)) (y x : List ℕ) → IsRotation n rotation → IsKey count n y → among x (row_here rotation es count y) ≡ true → IsKey count n x
+here_keys count n rotation es y x is key h = pick (is_first rotation es y) h
+  where
+    pick : (b : Bool) → among x (if b then row_of rotation count y else []) ≡ true → IsKey count n x
+    pick true h = row_keys count n rotation y x is key h
+    pick false h = absurd (cc)
+
 pub keys_both : (count n : ℕ) (first second : List (List ℕ)) → ((x : List ℕ) → among x first ≡ true → IsKey count n x) → ((x : List ℕ) → among x second ≡ true → IsKey count n x)
     → (x : List ℕ) → among x (first ++ second) ≡ true → IsKey count n x
 keys_both count n first second f s x h =
@@ -84,21 +95,64 @@ keys_both count n first second f s x h =
       | inr later ↦ s x later
     ]
 
--- an old key that has an amplitude has its row among the targets
-target_by : {E : Type 0} (rotation : Rotation) (count u : ℕ) (k : List ℕ) (e : List ℕ × E) (es : List (List ℕ × E)) (v : E) (b : Bool) → u < count → bytes_eq k e.0 ≡ b
-    → (amplitude_at es k ≡ Some v → among (after rotation k u) (targets_of rotation count es) ≡ true) → (if b then Some e.1 else amplitude_at es k) ≡ Some v
-    → (among (after rotation k u) (row_of rotation count e.0) || among (after rotation k u) (targets_of rotation count es)) ≡ true
-target_by rotation count u k e es v true low test rest h =
+-- an old key that is the first of its column has its row among the targets
+target_by : {E : Type 0} (whole : List (List ℕ × E)) (rotation : Rotation) (count u : ℕ) (k : List ℕ) (e : List ℕ × E) (es : List (List ℕ × E)) (v : E) (b : Bool) → u < count
+    → is_first rotation whole k ≡ true → bytes_eq k e.0 ≡ b
+    → (amplitude_at es k ≡ Some v → among (after rotation k u) (targets_in whole rotation count es) ≡ true) → (if b then Some e.1 else amplitude_at es k) ≡ Some v
+    → (among (after rotation k u) (row_here rotation whole count e.0) || among (after rotation k u) (targets_in whole rotation count es)) ≡ true
+target_by whole rotation count u k e es v true low first test rest h =
     let same : k ≡ e.0 = same_key k e.0 test in
-    ap (λ b. b || among (after rotation k u) (targets_of rotation count es))
-    (ap (λ l. among (after rotation k u) (row_of rotation count l)) (sym same) ∙ among_range rotation k u 0 count (omega arith) (omega arith))
-target_by rotation count u k e es v false low test rest h = or_true (among (after rotation k u) (row_of rotation count e.0)) _ (rest h)
+    ap (λ b. b || among (after rotation k u) (targets_in whole rotation count es))
+    (ap (λ l. among (after rotation k u) (row_here rotation whole count l)) (sym same)
+    ∙ (ap (λ b. among (after rotation k u) (if b then row_of rotation count k else [])) first ∙ among_range rotation k u 0 count (omega arith) (omega arith)))
+target_by whole rotation count u k e es v false low first test rest h = or_true (among (after rotation k u) (row_here rotation whole count e.0)) _ (rest h)
 
-pub target_among : {E : Type 0} (rotation : Rotation) (count u : ℕ) (k : List ℕ) (es : List (List ℕ × E)) (v : E) → u < count → amplitude_at es k ≡ Some v → among (after rotation k u) (targets_of rotation count es) ≡ true
-target_among rotation count u k [] v low h = absurd (cc)
-target_among {E} rotation count u k (e ∷ es) v low h =
-    list_any-append (λ y. bytes_eq y (after rotation k u)) (row_of rotation count e.0) (targets_of rotation count es)
-    ∙ target_by rotation count u k e es v (bytes_eq k e.0) low refl (target_among rotation count u k es v low) h
+first_among : {E : Type 0} (whole : List (List ℕ × E)) (rotation : Rotation) (count u : ℕ) (k : List ℕ) (es : List (List ℕ × E)) (v : E) → u < count → is_first rotation whole k ≡ true
+    → amplitude_at es k ≡ Some v → among (after rotation k u) (targets_in whole rotation count es) ≡ true
+first_among whole rotation count u k [] v low first h = absurd (cc)
+first_among {E} whole rotation count u k (e ∷ es) v low first h =
+    list_any-append (λ y. bytes_eq y (after rotation k u)) (row_here rotation whole count e.0) (targets_in whole rotation count es)
+    ∙ target_by whole rotation count u k e es v (bytes_eq k e.0) low first refl (first_among whole rotation count u k es v low first) h
+
+some_or_none : {A : Type 0} (o : Option A) → (o ≡ None) ⊎ ((v : A) × (o ≡ Some v))
+some_or_none None = inl refl
+some_or_none (Some v) = inr (v, refl)
+
+-- the least label that has something
+find_least : {E : Type 0} (at : ℕ → Option E) (n : ℕ) → (none_below at n ≡ true) ⊎ ((l : ℕ) × (v : E) × (at l ≡ Some v) × (none_below at l ≡ true))
+find_least at zero = inl refl
+find_least at (suc n) =
+    elim (find_least at n) [
+      | inr found ↦ inr found
+      | inl none ↦ elim (some_or_none (at n)) [
+        | inl nothing ↦ inl (none_more at n none nothing)
+        | inr there ↦ inr (n, there.0, there.1, none)
+      ]
+    ]
+
+-- an old key that has an amplitude has its row among the targets: that of the first of its column
+pub target_among : {E : Type 0} (n : ℕ) (rotation : Rotation) (count u : ℕ) (k : List ℕ) (es : List (List ℕ × E)) (v : E) → IsRotation n rotation → n ≡ length k + 1 → u < count
+    → amplitude_at es k ≡ Some v → among (after rotation k u) (targets_of rotation count es) ≡ true
+target_among {E} n rotation count u k es v is long low h =
+    let g = rotation.node - 1 in
+    let at : ℕ → Option E = λ l. amplitude_at es (set k (rotation.node - 1) l) in
+    let here : rotation.node - 1 < length k = omega (arith, is.node.low, is.node.high) in
+    elim (find_least at (suc (get_or k (rotation.node - 1) 0))) [
+      | inl none ↦
+          let own : at (get_or k (rotation.node - 1) 0) ≡ Some v = ap (amplitude_at es) (set-get_or k (rotation.node - 1) 0) ∙ h in
+          let fails = none_fails at (suc (get_or k (rotation.node - 1) 0)) (get_or k (rotation.node - 1) 0) v (omega arith) own in
+          let both : true ≡ false = sym none ∙ fails in
+          absurd (cc)
+      | inr found ↦
+          let l = found.0 in
+          let first = set k (rotation.node - 1) found.0 in
+          let label : get_or (set k (rotation.node - 1) found.0) (rotation.node - 1) 0 ≡ found.0 = get_or-set_same k (rotation.node - 1) found.0 0 here in
+          let is_it : is_first rotation es (set k (rotation.node - 1) found.0) ≡ true =
+          (λ j. none_below (λ m. amplitude_at es (set-set k (rotation.node - 1) found.0 m j)) (label j)) ∙ found.3 in
+          let same : after rotation (set k (rotation.node - 1) found.0) u ≡ after rotation k u =
+          after_column n rotation k found.0 u is long in
+          subst (λ y. among y (targets_of rotation count es) ≡ true) same (first_among es rotation count u (set k (rotation.node - 1) found.0) es found.1 low is_it found.2)
+    ]
 
 off_third : (a b d e : Bool) → d ≡ false → (a && (b && (d && e))) ≡ false
 off_third true true d e h = ap (λ x. x && e) h
@@ -125,10 +179,6 @@ fuses_low f a b u high = ap (λ x. x && stands_at f.table a b u) (no_labels (nat
     no_labels true false d h = refl
     no_labels false b d h = refl
 
-some_or_none : {A : Type 0} (o : Option A) → (o ≡ None) ⊎ ((v : A) × (o ≡ Some v))
-some_or_none None = inl refl
-some_or_none (Some v) = inr (v, refl)
-
 module _ {E : Type 0} {R : Ring E} {H : Held E} (laws : RingLaws R H) (g : Given E) (low : (a b u : ℕ) → g.count ≤ u → g.fuse a b u ≡ false)
     (strands : List ℕ) (rotation : Rotation) (is : IsRotation (length strands) rotation) (es : List (List ℕ × E)) (over : AreOver R g.count (length strands) es) where
   abbrev c : Symbols E
@@ -147,7 +197,7 @@ module _ {E : Type 0} {R : Ring E} {H : Held E} (laws : RingLaws R H) (g : Given
             let long : length strands ≡ length x + 1 = key.long ∙ ap (λ m. m + 1) (long_before rotation x t) in
             let same : after rotation (before rotation x t) (get_or x (rotation.parent - 1) 0) ≡ x = after_before (length strands) rotation x t is long in
             let here : among x (targets_of rotation g.count es) ≡ true =
-            subst (λ (y : List ℕ). among y (targets_of rotation g.count es) ≡ true) same (target_among rotation g.count (get_or x (rotation.parent - 1) 0) (before rotation x t) es there.0 below there.1) in
+            subst (λ (y : List ℕ). among y (targets_of rotation g.count es) ≡ true) same (target_among (length strands) rotation g.count (get_or x (rotation.parent - 1) 0) (before rotation x t) es there.0 is key.long below there.1) in
             absurd (cc)
       ]
 

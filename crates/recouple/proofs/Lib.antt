@@ -1,4 +1,5 @@
 pub mod AdmissibleLemmas
+pub mod ColumnLemmas
 pub mod CombLemmas
 pub mod EndLemmas
 pub mod KeyLemmas

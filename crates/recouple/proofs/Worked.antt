@@ -43,6 +43,10 @@ keys = (refl, refl)
 targets : ((row_of from_the_left 2 (9 ∷ 3 ∷ []) ≡ (3 ∷ 0 ∷ []) ∷ (3 ∷ 1 ∷ []) ∷ []) × (targets_of {E = Whole5} from_the_left 1 (((0 ∷ 1 ∷ []), whole 1) ∷ ((1 ∷ 0 ∷ []), whole 1) ∷ []) ≡ (1 ∷ 0 ∷ []) ∷ (0 ∷ 0 ∷ []) ∷ []))
 targets = (refl, refl)
 
+-- two keys that differ at the node's label alone have one row
+one_row : targets_of {E = Whole5} from_the_left 2 (((0 ∷ 1 ∷ []), whole 1) ∷ ((1 ∷ 1 ∷ []), whole 1) ∷ []) ≡ (1 ∷ 0 ∷ []) ∷ (1 ∷ 1 ∷ []) ∷ []
+one_row = refl
+
 -- three keys that differ at the node's label
 abbrev on_left : State Whole5
 on_left = record {

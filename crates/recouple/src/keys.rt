@@ -47,3 +47,13 @@ pub(crate) fn after(key: &Key, rotation: &Rotation, label: u8) -> Key
 {
     moved(key, rotation.parent, rotation.node, label)
 }
+
+/// The key with another label at the node.
+pub(crate) fn with_label(key: &Key, node: u8, label: u8) -> Key
+    requires { IsPlace (length key.now.items) node }
+    ensures { result.items ≡ slice_set key.now.items (node - 1) label }
+{
+    let mut changed = copy_of(key);
+    changed.as_mut_slice()[node as usize - 1] = label;
+    changed
+}

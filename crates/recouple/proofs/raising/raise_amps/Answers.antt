@@ -4,15 +4,15 @@ use Rattle.symbol_table.specs.Draft.{given}
 use Rattle.amp_store.specs.Amplitudes.{amplitude_of}
 use Rattle.recouple.specs.Rotations.{IsKey}
 use Rattle.recouple.specs.Raises.{raised, raised_at}
-use Rattle.recouple.specs.Targets.{targets_of, row_of}
+use Rattle.recouple.specs.Targets.{row_here, targets_in, targets_of}
 use Rattle.amp_store.specs.Gathered.{among, gathered}
 use Rattle.amp_store.proofs.GatherLemmas.{fits_both}
-use Rattle.recouple.proofs.EndLemmas.{entry_has, targets_one, row_keys, keys_both, raised_known, raised_over, fits_all, fuses_low}
+use Rattle.recouple.proofs.EndLemmas.{entry_has, targets_one, here_keys, keys_both, raised_known, raised_over, fits_all, fuses_low}
 use Rattle.recouple.proofs.raising.raise_amps.Given.{Over}
 use Rattle.recouple.proofs.raising.raise_amps.Goals as goal
 
-pub raise_row-requires-clause-key : goal.raise_row-requires-clause-key
-raise_row-requires-clause-key g c =
+pub raise_column-requires-clause-key : goal.raise_column-requires-clause-key
+raise_column-requires-clause-key g c =
     let e : List ℕ × g.row.R-Elem.Denot = (c.entry.result.0.now.items, c.entry.result.1.now) in
     let has = entry_has c.args.amps.now c.loop-place.place e c.entry.ensures in
     c.requires.amps.keys c.entry.result.0.now.items has.0 has.1
@@ -29,20 +29,20 @@ loop-place-preserved g c =
     let e : List ℕ × g.row.R-Elem.Denot = (c.entry.result.0.now.items, c.entry.result.1.now) in
     let has = entry_has es c.loop-place.place e c.entry.ensures in
     let is : IsKey s.count (length strands) key = c.requires.amps.keys key has.0 has.1 in
-    let done = targets_of rotation s.count (take c.loop-place.place es) in
-    let more : targets_of rotation s.count (take (c.loop-place.place + 1) es) ≡ done ++ row_of rotation s.count key = targets_one rotation s.count es c.loop-place.place e c.entry.ensures in
+    let done = targets_in es rotation s.count (take c.loop-place.place es) in
+    let more : targets_in es rotation s.count (take (c.loop-place.place + 1) es) ≡ done ++ row_here rotation es s.count key = targets_one rotation s.count es c.loop-place.place e c.entry.ensures in
     record {
-      entries = λ x. c.in_ok-raise_row.ensures.entries done c.loop-place.invariant.entries x ∙ ap (λ l. gathered g.R.StarRing.held (raised s strands rotation v) l x) (sym more);
-      fits = λ x h. fits_both (raised_at s strands rotation v) done (row_of rotation s.count key) c.loop-place.invariant.fits c.in_ok-raise_row.ensures.fits x (ap (among x) (sym more) ∙ h);
-      keys = λ x h. keys_both s.count (length strands) done (row_of rotation s.count key) c.loop-place.invariant.keys (λ y i. row_keys s.count (length strands) rotation key y c.requires.rotation is i) x (ap (among x) (sym more) ∙ h);
+      entries = λ x. c.in_ok-raise_column.ensures.entries done c.loop-place.invariant.entries x ∙ ap (λ l. gathered g.R.StarRing.held (raised s strands rotation v) l x) (sym more);
+      fits = λ x h. fits_both (raised_at s strands rotation v) done (row_here rotation es s.count key) c.loop-place.invariant.fits c.in_ok-raise_column.ensures.fits x (ap (among x) (sym more) ∙ h);
+      keys = λ x h. keys_both s.count (length strands) done (row_here rotation es s.count key) c.loop-place.invariant.keys (λ y i. here_keys s.count (length strands) rotation es key y c.requires.rotation is i) x (ap (among x) (sym more) ∙ h);
     }
 
 -- the targets of all keys are done
 all_done : (g : Over) (c : goal.After-in_order g)
-    → targets_of c.args.rotation.now c.args.category.now.rules.count (take c.loop-place.place c.args.amps.now) ≡ targets_of c.args.rotation.now c.args.category.now.rules.count c.args.amps.now
+    → targets_in c.args.amps.now c.args.rotation.now c.args.category.now.rules.count (take c.loop-place.place c.args.amps.now) ≡ targets_of c.args.rotation.now c.args.category.now.rules.count c.args.amps.now
 all_done g c =
     let end : length c.args.amps.now ≤ c.loop-place.place = omega (arith, c.len-place-end.ensures.len, c.loop-place-test.false) in
-    ap (targets_of c.args.rotation.now c.args.category.now.rules.count) (take_all c.loop-place.place c.args.amps.now end)
+    ap (targets_in c.args.amps.now c.args.rotation.now c.args.category.now.rules.count) (take_all c.loop-place.place c.args.amps.now end)
 
 pub returns-clause-amplitudes : goal.returns-clause-amplitudes
 returns-clause-amplitudes g c =

@@ -4,7 +4,7 @@ use Rattle.symbol_table.specs.Category.{draft_symbols}
 use Rattle.amp_store.specs.Amplitudes.{amplitude_at, amplitude_of}
 use Rattle.recouple.specs.Rotations.{IsKey}
 use Rattle.recouple.specs.Raises.{raised, raised_at}
-use Rattle.recouple.specs.Targets.{targets_of}
+use Rattle.recouple.specs.Targets.{targets_in}
 use Rattle.amp_store.specs.Gathered.{among, gathered}
 use Rattle.recouple.proofs.raising.raise_amps.Given as goal
 
@@ -13,7 +13,7 @@ abbrev pub invariant-loop-place : goal.invariant-loop-place
 invariant-loop-place g l =
     let c = draft_symbols (g.R.StarRing.ring l.category.ring) g.R.StarRing.held l.category in
     let v = amplitude_of c.ring l.amps in
-    let done = targets_of l.rotation c.count (take l.place l.amps) in
+    let done = targets_in l.amps l.rotation c.count (take l.place l.amps) in
     record {
       entries : (x : List ℕ) → amplitude_at l.new x ≡ gathered c.held (raised c l.strands l.rotation v) done x;
       fits : (x : List ℕ) → among x done ≡ true → is_some (raised_at c l.strands l.rotation v x) ≡ true;
