@@ -59,7 +59,7 @@ labelled_is c (Branch l r) strand x key i =
     ∙ ap (c.ring.product (c.ring.product (c.h (x i) (top l strand key i) (top r strand key (i + size l)) (x ((i + size l) + size r)) (key (i + size l)) (x (i + size l))) (amplitude c l strand x key i))) second
 
 -- what a state stands for, by its outline
-sums_are : {E : Type 0} (c : Symbols E) (t : Outline) (strands x : List ℕ) (es : List (List ℕ × E))
+pub sums_are : {E : Type 0} (c : Symbols E) (t : Outline) (strands x : List ℕ) (es : List (List ℕ × E))
     → sum_over c.ring (λ (e : List ℕ × E). c.ring.product e.1 (path_amplitude c (with_labels t strands e.0) (slice_index x) 0)) es ≡ comb_of c t (slice_index strands) es (slice_index x)
 sums_are c t strands x [] = refl
 sums_are c t strands x (e ∷ es) =

@@ -1,0 +1,3 @@
+pub mod ProjectLemmas
+pub mod SplitLemmas
+mod Worked
