@@ -32,27 +32,10 @@ use Rattle.recouple.specs.Raises.{AreOver}
 use Rattle.recouple.specs.States.{State, IsStateOf, comb}
 use Rattle.recouple.proofs.CombLemmas.{over_keys, sums_are, value_is}
 use Rattle.recouple.proofs.RotationLemmas.{listed_get}
+use Rattle.recouple.proofs.PairLemmas.{IsPair, stands_at}
+use Rattle.recouple.proofs.PathPlaces.{ByPlace, path_set, path_tells, set_is}
 use Rattle.recouple.proofs.ValueLemmas.{amplitude_member}
 use Rattle.charge_project.specs.Splits.{part_at}
-
--- a node over two strands is a pair in its surroundings
-pub record IsPair (t : Outline) (k : ℕ) : Type 0 where
-  pub around : Around
-  pub is : t ≡ fill around pair
-  pub gap : k ≡ place around 0 + 1
-
-pair_by : (a : Around) (l r : Outline) (t : Outline) (k : ℕ) → t ≡ fill a (Branch l r) → k ≡ place a 0 + size l → (is_none (gap_of l (place a 0)) && is_none (gap_of r (place a 0 + size l))) ≡ true → IsPair t k
-pair_by a Tip Tip t k is gap h = record { around = a; is = is; gap = gap }
-pair_by a Tip (Branch r r') t k is gap h = absurd (cc)
-pair_by a (Branch l l') r t k is gap h = absurd (cc)
-
-pub pair_there : (t : Outline) (k : ℕ) → 0 < k → k < size t → is_pair_at t k ≡ true → IsPair t k
-pair_there t k low high h =
-    let n = node_there t 0 k low (omega arith) in
-    let filled = node_filled n.around n.left n.right k n.gap in
-    let first : left_gap t k ≡ gap_of n.left (place n.around 0) = ap (λ u. left_gap u k) n.is ∙ ap (λ (s : Standing). left_under s.tree s.start) filled in
-    let second : right_gap t k ≡ gap_of n.right (place n.around 0 + size n.left) = ap (λ u. right_gap u k) n.is ∙ ap (λ (s : Standing). right_under s.tree s.start) filled in
-    pair_by n.around n.left n.right t k n.is n.gap ((λ j. is_none (sym first j) && is_none (sym second j)) ∙ h)
 
 -- an amplitude of a part
 pub part_amplitude : {E : Type 0} (es : List (List ℕ × E)) (g q : ℕ) (key : List ℕ) → amplitude_at (filter (λ e. slice_index e.0 g == q) es) key ≡ (if slice_index key g == q then amplitude_at es key else None)
@@ -83,58 +66,6 @@ in_part {E} es g q key v e = pick (slice_index key g == q) (sym (part_amplitude 
     pick : (b : Bool) → (if b then amplitude_at es key else None) ≡ Some v → amplitude_at es key ≡ Some v
     pick true h = h
     pick false h = absurd (cc)
-
--- a path with another label that fuses on both sides is a path
-goes_set : {E : Type 0} (c : Symbols E) (p : ℕ) (ss xs : List ℕ) (j t : ℕ) → goes_on c p ss xs ≡ true → j + 1 < length ss → nat_lt t c.count ≡ true
-    → c.fuse (get_or (p ∷ xs) j 0) (get_or ss j 0) t ≡ true → c.fuse t (get_or ss (j + 1) 0) (get_or (p ∷ xs) (j + 2) 0) ≡ true → goes_on c p ss (set xs j t) ≡ true
-goes_set c p [] xs j t is low small before after = absurd (omega arith)
-goes_set c p (s ∷ ss) [] j t is low small before after = absurd (cc)
-goes_set c p (s ∷ []) (y ∷ xs) zero t is low small before after = absurd (omega arith)
-goes_set c p (s ∷ s' ∷ ss) (y ∷ []) zero t is low small before after =
-    let one = and_true (nat_lt y c.count) _ is in
-    let two = and_true (c.fuse p s y) _ one.1 in
-    absurd (cc)
-goes_set c p (s ∷ s' ∷ ss) (y ∷ y' ∷ xs) zero t is low small before after =
-    let one = and_true (nat_lt y c.count) _ is in
-    let two = and_true (c.fuse p s y) (goes_on c y (s' ∷ ss) (y' ∷ xs)) one.1 in
-    let three = and_true (nat_lt y' c.count) (c.fuse y s' y' && goes_on c y' ss xs) two.1 in
-    let four = and_true (c.fuse y s' y') (goes_on c y' ss xs) three.1 in
-    S.and_yes _ _ small (S.and_yes _ _ before (S.and_yes _ _ three.0 (S.and_yes _ _ after four.1)))
-goes_set c p (s ∷ ss) (y ∷ xs) (suc j) t is low small before after =
-    let one = and_true (nat_lt y c.count) _ is in
-    let two = and_true (c.fuse p s y) (goes_on c y ss xs) one.1 in
-    let up : suc j + 1 ≡ suc (j + 1) = omega arith in
-    let up2 : suc j + 2 ≡ suc (j + 2) = omega arith in
-    S.and_yes _ _ one.0 (S.and_yes _ _ two.0
-    (goes_set c y ss xs j t two.1 (omega arith) small before ((λ i. c.fuse t (get_or (s ∷ ss) (sym up i) 0) (get_or (p ∷ y ∷ xs) (sym up2 i) 0)) ∙ after)))
-
-pub path_set : {E : Type 0} (c : Symbols E) (ss : List ℕ) (x : Path) (k t : ℕ) → is_path c ss x ≡ true → 0 < k → k < length ss → nat_lt t c.count ≡ true
-    → c.fuse (get_or x (k - 1) 0) (get_or ss (k - 1) 0) t ≡ true → c.fuse t (get_or ss k 0) (get_or x (k + 1) 0) ≡ true → is_path c ss (set x k t) ≡ true
-path_set c ss [] k t is low high small before after = absurd (cc)
-path_set c ss (x ∷ xs) zero t is low high small before after = absurd (omega arith)
-path_set c ss (x ∷ xs) (suc j) t is low high small before after =
-    let one = and_true (x == 0) (goes_on c 0 ss xs) is in
-    let unit : x ≡ 0 = grind (arith, nat_tests) in
-    let back : suc j - 1 ≡ j = omega arith in
-    let up : suc j ≡ j + 1 = omega arith in
-    let up2 : suc j + 1 ≡ j + 2 = omega arith in
-    S.and_yes _ _ one.0 (goes_set c 0 ss xs j t one.1 (omega arith) small
-    ((λ i. c.fuse (get_or (sym unit i ∷ xs) (sym back i) 0) (get_or ss (sym back i) 0) t) ∙ before)
-    ((λ i. c.fuse t (get_or ss (sym up i) 0) (get_or (sym unit i ∷ xs) (sym up2 i) 0)) ∙ after))
-
-pub path_long : {E : Type 0} (c : Symbols E) (ss : List ℕ) (x : Path) → is_path c ss x ≡ true → length x ≡ length ss + 1
-path_long c ss [] is = absurd (cc)
-path_long c ss (x ∷ xs) is =
-    let one = and_true (x == 0) (goes_on c 0 ss xs) is in
-    omega (arith, goes_long c 0 ss xs one.1)
-
--- a list with another label at a place, as a function of the place
-set_is : (xs : List ℕ) (k t : ℕ) → k < length xs → slice_index (set xs k t) ≡ put k t (slice_index xs)
-set_is xs k t below = same_key _ _ (λ g.
-    elim (eqb_tells g k) [
-      | inl e ↦ ap (slice_index (set xs k t)) e.1 ∙ (get_or-set_same xs k t 0 below ∙ sym (ap (put k t (slice_index xs)) e.1 ∙ put_here k t (slice_index xs)))
-      | inr n ↦ get_or-set_other xs k g t 0 n.1 ∙ sym (put_off k t (slice_index xs) g n.1)
-    ])
 
 module _ {E : Type 0} (c : Symbols E) (laws : RingLaws c.ring c.held) (proper : IsProper c) (equations : HasEquations c) (s : State E) (is : IsStateOf c s) (order : AreAmplitudes c.held s.amps) (k : ℕ) (low : 0 < k) (high : k < size s.shape)
     (at : IsPair s.shape k) (q : ℕ) where
@@ -170,23 +101,15 @@ module _ {E : Type 0} (c : Symbols E) (laws : RingLaws c.ring c.held) (proper : 
       ∙ (value_by (slice_index L (k - 1) == q) (amplitude_at s.amps L) (amplitude_member laws c.count (length s.strands) s.amps is.over L)
       ∙ (λ j. o (mark c (label j == q)) (sym (value_is c.ring s.amps L) j))))
 
-  one_less : length s.strands ≡ (size s.shape - 1) + 1
-  one_less = omega (arith, is.leaves)
-
   abbrev old : (ℕ → ℕ) → E
   old = values c.ring (size s.shape - 1) s.amps
 
   -- what entries stand for on a path
   old_stands : (x : Path) → is_path c s.strands x ≡ true → comb c s x ≡ stands_for c s.shape st old (slice_index x)
-  old_stands x on =
-      rw on (sums_are c s.shape s.strands x s.amps
-      ∙ comb_is c laws s.shape st s.amps (slice_index x) (over_keys c.ring c.count (length s.strands) (size s.shape - 1) s.amps order.ordered is.over one_less))
+  old_stands = stands_at c laws s is order
 
   new_stands : (x : Path) → is_path c s.strands x ≡ true → comb c (part_at k s q) x ≡ stands_for c s.shape st (values c.ring (size s.shape - 1) part) (slice_index x)
-  new_stands x on =
-      let ordered = amplitudes_part (λ (e : List ℕ × E). slice_index e.0 (k - 1) == q) c.held s.amps order in
-      rw on (sums_are c s.shape s.strands x part
-      ∙ comb_is c laws s.shape st part (slice_index x) (over_keys c.ring c.count (length s.strands) (size s.shape - 1) part ordered.ordered part_over one_less))
+  new_stands = stands_at c laws (part_at k s q) part_of (amplitudes_part (λ (e : List ℕ × E). slice_index e.0 (k - 1) == q) c.held s.amps order)
 
   -- the coefficient is zero where the new label makes no path
   gone : (x : Path) (t : ℕ) → is_path c s.strands x ≡ true → nat_lt t c.count ≡ true → is_path c s.strands (slice_set x k t) ≡ false → (u : ℕ)
@@ -201,7 +124,7 @@ module _ {E : Type 0} (c : Symbols E) (laws : RingLaws c.ring c.held) (proper : 
         | inl first ↦ elim (S.true_or_false (c.fuse t b y)) [
           | inr no' ↦ Q.f_gone c laws proper p a b y t u _ no' (λ h. h.emd)
           | inl both ↦
-              let there = path_set c s.strands x k t on low (omega (arith, is.leaves)) small first both in
+              let there = path_set c s.strands s.strands x k t refl (λ j _ _. refl) on low (omega (arith, is.leaves)) small first both in
               let clash : true ≡ false = sym there ∙ off in
               absurd (cc)
         ]
@@ -216,7 +139,7 @@ module _ {E : Type 0} (c : Symbols E) (laws : RingLaws c.ring c.held) (proper : 
   term_is x t on small =
       elim (S.true_or_false (is_path c s.strands (slice_set x k t))) [
         | inl there ↦
-            ap (o _) (sym (old_stands (slice_set x k t) there ∙ ap (stands_for c s.shape st old) (set_is x k t (omega (arith, path_long c s.strands x on, is.leaves)))))
+            ap (o _) (sym (old_stands (slice_set x k t) there ∙ ap (stands_for c s.shape st old) (set_is x k t (omega (arith, ByPlace.long (path_tells c s.strands x on), is.leaves)))))
         | inr off ↦
             let none = Q.left_none c laws proper _ _ (gone x t on small off q) in
             Q.left_none c laws proper _ _ none ∙ sym (Q.left_none c laws proper _ _ none)

@@ -1,7 +1,7 @@
 -- The parts of a state, one after another.
 use Rattle.std.proofs.Common.{◌≡◌, ◌≢◌, ℕ, zero, suc, ◌+◌, ◌-◌, ◌<◌, Bool, true, false, List, [], ◌∷◌, ◌++◌, map, Some, length, refl, ap, sym, ◌∙◌, arith, slice_index, inl, inr}
 use Rattle.std.specs.Prelude.{if◌then◌else◌, ◌==◌, slice_get}
-use Rattle.std.specs.List.{AllByRecursion, AllZip, filter}
+use Rattle.std.specs.List.{AllByRecursion, filter}
 use Rattle.std.proofs.lemmas.Bool.Decides.{eqb_tells}
 use Rattle.std.proofs.lemmas.List.{map-append}
 use Rattle.std.proofs.lemmas.List.Elements.{filter-append}
@@ -24,13 +24,6 @@ keys_reach r count n k es over low high =
     let has = entry_has es i e is in
     let key = over.keys e.0 has.0 has.1 in
     omega (arith, key.long))
-
--- a copy of numbers
-pub same_copy : (xs ys : List ℕ) → AllZip (λ x y. y ≡ x) xs ys → ys ≡ xs
-same_copy [] [] h = refl
-same_copy [] (y ∷ ys) h = absurd h
-same_copy (x ∷ xs) [] h = absurd h
-same_copy (x ∷ xs) (y ∷ ys) h = λ j. h.0 j ∷ same_copy xs ys h.1 j
 
 pub any_is : {A : Type 0} (xs : List A) → 0 < length xs → any_left xs ≡ true
 any_is [] h = absurd (omega arith)

@@ -8,7 +8,7 @@ use Rattle.tree_shapes.specs.Labelled.{is_admissible, label}
 use Rattle.tree_shapes.specs.Outlines.{Outline, Tip, Branch, size, labelled_at, with_labels}
 use Rattle.tree_laws.specs.Trees.{top}
 use Rattle.tree_shapes.specs.Contexts.{Around, Hole, OnLeft, OnRight, fill, place, on_left, on_right}
-use Rattle.tree_laws.proofs.Factor.{Same, top_same}
+use Rattle.tree_laws.proofs.Factor.{Inside, Same, inside_left, inside_right, top_inside}
 use Rattle.tree_shapes.proofs.ContextLemmas.{size_above, fill_size, place_above, place_below}
 use Rattle.tree_laws.proofs.Keys.{Key}
 use Rattle.tree_shapes.proofs.RotationLemmas.{raised_is}
@@ -41,89 +41,105 @@ module _ {E : Type 0} (c : Symbols E) (strand : ℕ → ℕ) where
   adm_is (Branch l r) key i =
       λ j. c.fuse (labelled_top l key i j) (labelled_top r key (i + size l) j) (key (i + size l)) && (adm_is l key i j && adm_is r key (i + size l) j)
 
-  adm_same : (t : Outline) (a b : Key) (i : ℕ) → Same i (size t) a b → adm t a i ≡ adm t b i
-  adm_same Tip a b i h = refl
-  adm_same (Branch l r) a b i h =
-      let in_l : Same i (size l) a b = λ g above below. h g above (omega (arith, size_above r)) in
-      let in_r : Same (i + size l) (size r) a b = λ g above below. h g (omega (arith, size_above l)) (omega arith) in
-      let at_m : a (i + size l) ≡ b (i + size l) = h (i + size l) (omega (arith, size_above l)) (omega (arith, size_above r)) in
-      λ j. c.fuse (top_same l strand a b i in_l j) (top_same r strand a b (i + size l) in_r j) (at_m j) && (adm_same l a b i in_l j && adm_same r a b (i + size l) in_r j)
+-- by the labels inside alone
+adm_inside : {E : Type 0} (c : Symbols E) (t : Outline) (strand x key strand' x' key' : ℕ → ℕ) (i : ℕ) → Inside i (size t) strand x key strand' x' key' → adm c strand t key i ≡ adm c strand' t key' i
+adm_inside c Tip strand x key strand' x' key' i h = refl
+adm_inside c (Branch l r) strand x key strand' x' key' i h =
+    let in_l : Inside i (size l) strand x key strand' x' key' = inside_left l r strand x key strand' x' key' i h in
+    let in_r : Inside (i + size l) (size r) strand x key strand' x' key' = inside_right l r strand x key strand' x' key' i h in
+    let at_m : key (i + size l) ≡ key' (i + size l) = h.keys (i + size l) (omega (arith, size_above l)) (omega (arith, size_above r)) in
+    λ j. c.fuse (top_inside l strand x key strand' x' key' i in_l j) (top_inside r strand x key strand' x' key' (i + size l) in_r j) (at_m j)
+    && (adm_inside c l strand x key strand' x' key' i in_l j && adm_inside c r strand x key strand' x' key' (i + size l) in_r j)
 
-  module _ (s s' : Outline) (x y : Key) (sizes : size s ≡ size s') where
-    -- the labels outside what fills the hole are the same
-    abbrev Below : ℕ → Type 0
-    Below p = (g : ℕ) → 0 < g → g ≤ p → x g ≡ y g
+module _ (strand strand' : ℕ → ℕ) (x y : Key) where
+  -- the labels outside n strands from strand p + 1 on are the same
+  pub record Beside (p n : ℕ) : Type 0 where
+    pub strands_below : (g : ℕ) → g < p → strand g ≡ strand' g
+    pub strands_above : (g : ℕ) → p + n ≤ g → strand g ≡ strand' g
+    pub below : (g : ℕ) → 0 < g → g ≤ p → x g ≡ y g
+    pub above : (g : ℕ) → p + n ≤ g → x g ≡ y g
 
-    abbrev Above : ℕ → Type 0
-    Above p = (g : ℕ) → p + size s ≤ g → x g ≡ y g
+-- Another tree in a hole, with other labels inside it.
+module _ {E : Type 0} (c : Symbols E) (strand strand' : ℕ → ℕ) (s s' : Outline) (x y : Key) (sizes : size s ≡ size s') where
+  top_in : (a : Around) (i : ℕ) → Beside strand strand' x y (place a i) (size s) → top s strand x (place a i) ≡ top s' strand' y (place a i) → top (fill a s) strand x i ≡ top (fill a s') strand' y i
+  top_in Hole i off e = e
+  top_in (OnLeft a r) i off e = off.above (i + size (fill a s)) (place_below a s i) ∙ ap (λ n. y (i + n)) (fill_size a s s' sizes)
+  top_in (OnRight l a) i off e = off.below (i + size l) (omega (arith, size_above l)) (place_above a (i + size l))
 
-    top_in : (a : Around) (i : ℕ) → Below (place a i) → Above (place a i) → top s strand x (place a i) ≡ top s' strand y (place a i) → top (fill a s) strand x i ≡ top (fill a s') strand y i
-    top_in Hole i low high e = e
-    top_in (OnLeft a r) i low high e = high (i + size (fill a s)) (place_below a s i) ∙ ap (λ n. y (i + n)) (fill_size a s s' sizes)
-    top_in (OnRight l a) i low high e = low (i + size l) (omega (arith, size_above l)) (place_above a (i + size l))
+  pub adm_in : (a : Around) (i : ℕ) → Beside strand strand' x y (place a i) (size s) → top s strand x (place a i) ≡ top s' strand' y (place a i)
+      → (adm c strand s x (place a i) ≡ true → adm c strand' s' y (place a i) ≡ true) → adm c strand (fill a s) x i ≡ true → adm c strand' (fill a s') y i ≡ true
+  adm_in Hole i off e inside is = inside is
+  adm_in (OnLeft a r) i off e inside is =
+      let m = i + size (fill a s) in
+      let under : place a i + size s ≤ i + size (fill a s) = place_below a s i in
+      let same : Inside m (size r) strand x x strand' x y = record {
+        strands = λ g above below. off.strands_above g (omega arith);
+        paths = λ g above below. refl;
+        keys = λ g above below. off.above g (omega arith);
+      } in
+      let one = and_true (c.fuse (top (fill a s) strand x i) (top r strand x m) (x m)) _ is in
+      let two = and_true (adm c strand (fill a s) x i) (adm c strand r x m) one.1 in
+      let moved : m ≡ i + size (fill a s') = ap (λ n. i + n) (fill_size a s s' sizes) in
+      subst (λ (n : ℕ). (c.fuse (top (fill a s') strand' y i) (top r strand' y n) (y n) && (adm c strand' (fill a s') y i && adm c strand' r y n)) ≡ true) moved
+      (S.and_yes _ _
+      ((λ j. c.fuse (sym (top_in a i off e) j) (sym (top_inside r strand x x strand' x y m same) j) (sym (off.above m under) j)) ∙ one.0)
+      (S.and_yes _ _ (adm_in a i off e inside two.0) (sym (adm_inside c r strand x x strand' x y m same) ∙ two.1)))
+  adm_in (OnRight l a) i off e inside is =
+      let m = i + size l in
+      let above_m : m ≤ place a m = place_above a m in
+      let same : Inside i (size l) strand x x strand' x y = record {
+        strands = λ g above below. off.strands_below g (omega arith);
+        paths = λ g above below. refl;
+        keys = λ g above below. off.below g (omega arith) (omega arith);
+      } in
+      let one = and_true (c.fuse (top l strand x i) (top (fill a s) strand x m) (x m)) _ is in
+      let two = and_true (adm c strand l x i) (adm c strand (fill a s) x m) one.1 in
+      S.and_yes _ _
+      ((λ j. c.fuse (sym (top_inside l strand x x strand' x y i same) j) (sym (top_in a m off e) j) (sym (off.below m (omega (arith, size_above l)) above_m) j)) ∙ one.0)
+      (S.and_yes _ _ (sym (adm_inside c l strand x x strand' x y i same) ∙ two.0) (adm_in a m off e inside two.1))
 
-    pub adm_in : (a : Around) (i : ℕ) → Below (place a i) → Above (place a i) → top s strand x (place a i) ≡ top s' strand y (place a i)
-        → (adm s x (place a i) ≡ true → adm s' y (place a i) ≡ true) → adm (fill a s) x i ≡ true → adm (fill a s') y i ≡ true
-    adm_in Hole i low high e inside is = inside is
-    adm_in (OnLeft a r) i low high e inside is =
-        let m = i + size (fill a s) in
-        let below : place a i + size s ≤ i + size (fill a s) = place_below a s i in
-        let same : Same m (size r) x y = λ g above under. high g (omega arith) in
-        let one = and_true (c.fuse (top (fill a s) strand x i) (top r strand x m) (x m)) _ is in
-        let two = and_true (adm (fill a s) x i) (adm r x m) one.1 in
-        let moved : m ≡ i + size (fill a s') = ap (λ n. i + n) (fill_size a s s' sizes) in
-        subst (λ (n : ℕ). (c.fuse (top (fill a s') strand y i) (top r strand y n) (y n) && (adm (fill a s') y i && adm r y n)) ≡ true) moved
-        (S.and_yes _ _
-        ((λ j. c.fuse (sym (top_in a i low high e) j) (sym (top_same r strand x y m same) j) (sym (high m below) j)) ∙ one.0)
-        (S.and_yes _ _ (adm_in a i low high e inside two.0) (sym (adm_same r x y m same) ∙ two.1)))
-    adm_in (OnRight l a) i low high e inside is =
-        let m = i + size l in
-        let above_m : m ≤ place a m = place_above a m in
-        let same : Same i (size l) x y = λ g above under. low g (omega arith) (omega arith) in
-        let one = and_true (c.fuse (top l strand x i) (top (fill a s) strand x m) (x m)) _ is in
-        let two = and_true (adm l x i) (adm (fill a s) x m) one.1 in
-        S.and_yes _ _
-        ((λ j. c.fuse (sym (top_same l strand x y i same) j) (sym (top_in a m low high e) j) (sym (low m (omega (arith, size_above l)) above_m) j)) ∙ one.0)
-        (S.and_yes _ _ (sym (adm_same l x y i same) ∙ two.0) (adm_in a m low high e inside two.1))
+module _ {E : Type 0} (c : Symbols E) (strand : ℕ → ℕ) where
+  adm_same : (t : Outline) (a b : Key) (i : ℕ) → Same i (size t) a b → adm c strand t a i ≡ adm c strand t b i
+  adm_same t a b i h = adm_inside c t strand strand a strand strand b i (record { strands = λ g _ _. refl; paths = λ g _ _. refl; keys = h })
 
   -- the node itself, which was a left child
   adm_left : (A B C : Outline) (x y : Key) (j : ℕ) → ((g : ℕ) → j < g → g < j + ((size A + size B) + size C) → g ≢ j + size A → g ≢ (j + size A) + size B → x g ≡ y g)
       → c.fuse (top B strand y (j + size A)) (top C strand y ((j + size A) + size B)) (y ((j + size A) + size B)) ≡ true
       → c.fuse (top A strand y j) (y ((j + size A) + size B)) (y (j + size A)) ≡ true
-      → adm (on_left A B C) x j ≡ true → adm (on_right A B C) y j ≡ true
+      → adm c strand (on_left A B C) x j ≡ true → adm c strand (on_right A B C) y j ≡ true
   adm_left A B C x y j off lower upper is =
       let k = j + size A in
       let p = (j + size A) + size B in
       let assoc : j + (size A + size B) ≡ p = omega arith in
       let one = and_true (c.fuse (x k) (top C strand x (j + (size A + size B))) (x (j + (size A + size B)))) _ is in
-      let two = and_true (adm (Branch A B) x j) (adm C x (j + (size A + size B))) one.1 in
+      let two = and_true (adm c strand (Branch A B) x j) (adm c strand C x (j + (size A + size B))) one.1 in
       let three = and_true (c.fuse (top A strand x j) (top B strand x k) (x k)) _ two.0 in
-      let four = and_true (adm A x j) (adm B x k) three.1 in
+      let four = and_true (adm c strand A x j) (adm c strand B x k) three.1 in
       let in_a : Same j (size A) x y = λ g a b. off g a (omega arith) (λ e. omega (arith, e)) (λ e. omega (arith, e)) in
       let in_b : Same k (size B) x y = λ g a b. off g (omega arith) (omega arith) (λ e. omega (arith, e)) (λ e. omega (arith, e)) in
       let in_c : Same p (size C) x y = λ g a b. off g (omega arith) (omega arith) (λ e. omega (arith, e)) (λ e. omega (arith, e)) in
       S.and_yes _ _ upper
       (S.and_yes _ _ (sym (adm_same A x y j in_a) ∙ four.0)
       (S.and_yes _ _ lower
-      (S.and_yes _ _ (sym (adm_same B x y k in_b) ∙ four.1) (sym (adm_same C x y p in_c) ∙ (ap (adm C x) (sym assoc) ∙ two.1)))))
+      (S.and_yes _ _ (sym (adm_same B x y k in_b) ∙ four.1) (sym (adm_same C x y p in_c) ∙ (ap (adm c strand C x) (sym assoc) ∙ two.1)))))
 
   -- and which was a right child
   adm_right : (A B C : Outline) (x y : Key) (j : ℕ) → ((g : ℕ) → j < g → g < j + ((size A + size B) + size C) → g ≢ j + size A → g ≢ (j + size A) + size B → x g ≡ y g)
       → c.fuse (top A strand y j) (top B strand y (j + size A)) (y (j + size A)) ≡ true
       → c.fuse (y (j + size A)) (top C strand y ((j + size A) + size B)) (y ((j + size A) + size B)) ≡ true
-      → adm (on_right A B C) x j ≡ true → adm (on_left A B C) y j ≡ true
+      → adm c strand (on_right A B C) x j ≡ true → adm c strand (on_left A B C) y j ≡ true
   adm_right A B C x y j off lower upper is =
       let p = j + size A in
       let k = (j + size A) + size B in
       let assoc : k ≡ j + (size A + size B) = omega arith in
       let one = and_true (c.fuse (top A strand x j) (x k) (x p)) _ is in
-      let two = and_true (adm A x j) (adm (Branch B C) x p) one.1 in
+      let two = and_true (adm c strand A x j) (adm c strand (Branch B C) x p) one.1 in
       let three = and_true (c.fuse (top B strand x p) (top C strand x k) (x k)) _ two.1 in
-      let four = and_true (adm B x p) (adm C x k) three.1 in
+      let four = and_true (adm c strand B x p) (adm c strand C x k) three.1 in
       let in_a : Same j (size A) x y = λ g a b. off g a (omega arith) (λ e. omega (arith, e)) (λ e. omega (arith, e)) in
       let in_b : Same p (size B) x y = λ g a b. off g (omega arith) (omega arith) (λ e. omega (arith, e)) (λ e. omega (arith, e)) in
       let in_c : Same k (size C) x y = λ g a b. off g (omega arith) (omega arith) (λ e. omega (arith, e)) (λ e. omega (arith, e)) in
-      subst (λ (n : ℕ). (c.fuse (y p) (top C strand y n) (y n) && (adm (Branch A B) y j && adm C y n)) ≡ true) assoc
+      subst (λ (n : ℕ). (c.fuse (y p) (top C strand y n) (y n) && (adm c strand (Branch A B) y j && adm c strand C y n)) ≡ true) assoc
       (S.and_yes _ _ upper
       (S.and_yes _ _
       (S.and_yes _ _ lower (S.and_yes _ _ (sym (adm_same A x y j in_a) ∙ two.0) (sym (adm_same B x y p in_b) ∙ four.0)))
@@ -181,9 +197,13 @@ module _ {E : Type 0} (c : Symbols E) (strands Y : List ℕ) (t : ℕ) where
       let n = label_at strands Y (spot_of C p) in
       let parts : Four (c.fuse l m t) (c.fuse t n (y k)) (c.fuse m n (y p)) (c.fuse l (y p) (y k)) =
       four (c.fuse l m t) (c.fuse t n (y k)) (c.fuse m n (y p)) (c.fuse l (y p) (y k)) (sym (S.if_yes (nat_lt k p) _ _ (less k p (omega (arith, size_above B)))) ∙ has) in
-      adm_in c strand (on_left A B C) (on_right A B C) x y (omega arith) a 0
-      (λ g low below. off_rotation Y k p t g k_low p_low low (λ e. omega (arith, e, size_above A)) (λ e. omega (arith, e, size_above A)))
-      (λ g above. off_rotation Y k p t g k_low p_low (omega (arith, size_above A)) (λ e. omega (arith, e, size_above B, size_above C)) (λ e. omega (arith, e, size_above C)))
+      adm_in c strand strand (on_left A B C) (on_right A B C) x y (omega arith) a 0
+      (record {
+        strands_below = λ g low. refl;
+        strands_above = λ g high. refl;
+        below = λ g low below. off_rotation Y k p t g k_low p_low low (λ e. omega (arith, e, size_above A)) (λ e. omega (arith, e, size_above A));
+        above = λ g above. off_rotation Y k p t g k_low p_low (omega (arith, size_above A)) (λ e. omega (arith, e, size_above B, size_above C)) (λ e. omega (arith, e, size_above C));
+      })
       (let assoc : j + (size A + size B) ≡ p = omega arith in ap x assoc ∙ at_parent Y k p t k_low p_low high (λ e. omega (arith, e, size_above B)))
       (adm_left c strand A B C x y j (λ g low below off_k off_p. off_rotation Y k p t g k_low p_low (omega arith) off_k off_p)
       ((λ i. c.fuse (sym (label_top strands Y B k) i) (sym (label_top strands Y C p) i) (y p)) ∙ parts.three)
@@ -205,9 +225,13 @@ module _ {E : Type 0} (c : Symbols E) (strands Y : List ℕ) (t : ℕ) where
       let n = label_at strands Y (spot_of C k) in
       let parts : Four (c.fuse l m (y p)) (c.fuse (y p) n (y k)) (c.fuse m n t) (c.fuse l t (y k)) =
       four (c.fuse l m (y p)) (c.fuse (y p) n (y k)) (c.fuse m n t) (c.fuse l t (y k)) (sym (S.if_no (nat_lt k p) _ _ (not_less k p (omega (arith, size_above B)))) ∙ has) in
-      adm_in c strand (on_right A B C) (on_left A B C) x y (omega arith) a 0
-      (λ g low below. off_rotation Y k p t g k_low p_low low (λ e. omega (arith, e, size_above A)) (λ e. omega (arith, e, size_above A)))
-      (λ g above. off_rotation Y k p t g k_low p_low (omega (arith, size_above A)) (λ e. omega (arith, e, size_above C)) (λ e. omega (arith, e, size_above B, size_above C)))
+      adm_in c strand strand (on_right A B C) (on_left A B C) x y (omega arith) a 0
+      (record {
+        strands_below = λ g low. refl;
+        strands_above = λ g high. refl;
+        below = λ g low below. off_rotation Y k p t g k_low p_low low (λ e. omega (arith, e, size_above A)) (λ e. omega (arith, e, size_above A));
+        above = λ g above. off_rotation Y k p t g k_low p_low (omega (arith, size_above A)) (λ e. omega (arith, e, size_above C)) (λ e. omega (arith, e, size_above B, size_above C));
+      })
       (let assoc : (place a 0 + size A) + size B ≡ place a 0 + (size A + size B) = omega arith in at_parent Y k p t k_low p_low (omega arith) (λ e. omega (arith, e, size_above B)) ∙ ap y assoc)
       (adm_right c strand A B C x y j (λ g low below off_p off_k. off_rotation Y k p t g k_low p_low (omega arith) off_k off_p)
       ((λ i. c.fuse (sym (label_top strands Y A j) i) (sym (label_top strands Y B p) i) (y p)) ∙ parts.one)

@@ -1,13 +1,15 @@
+mod Worked
 pub mod AdmissibleLemmas
 pub mod ColumnLemmas
 pub mod CombLemmas
 pub mod EndLemmas
 pub mod KeyLemmas
+pub mod PairLemmas
+pub mod PathPlaces
+pub mod RotationLemmas
 pub mod RowLemmas
 pub mod SomeLemmas
+pub mod StartLemmas
 pub mod StateLemmas
 pub mod TermLemmas
-pub mod RotationLemmas
 pub mod ValueLemmas
-mod Worked
-pub mod StartLemmas

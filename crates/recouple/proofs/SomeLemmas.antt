@@ -26,7 +26,7 @@ use Rattle.recouple.proofs.ValueLemmas.{amplitude_member}
 
 module _ {E : Type 0} (c : Symbols E) (strand : ℕ → ℕ) (x : Key) where
   -- what fills the hole of an admissible tree is admissible
-  adm_part : (a : Around) (s : Outline) (i : ℕ) → adm c strand (fill a s) x i ≡ true → adm c strand s x (place a i) ≡ true
+  pub adm_part : (a : Around) (s : Outline) (i : ℕ) → adm c strand (fill a s) x i ≡ true → adm c strand s x (place a i) ≡ true
   adm_part Hole s i is = is
   adm_part (OnLeft a r) s i is =
       let one = and_true (c.fuse (top (fill a s) strand x i) (top r strand x (i + size (fill a s))) (x (i + size (fill a s)))) _ is in

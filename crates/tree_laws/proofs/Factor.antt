@@ -27,6 +27,21 @@ pub record Outside (j n : ℕ) (strand x key strand' x' key' : ℕ → ℕ) : Ty
   pub keys_before : (g : ℕ) → g ≤ j → key g ≡ key' g
   pub keys_after : (g : ℕ) → j + n ≤ g → key g ≡ key' g
 
+-- and so inside both children
+pub inside_left : (l r : Outline) (strand x key strand' x' key' : ℕ → ℕ) (i : ℕ) → Inside i (size l + size r) strand x key strand' x' key' → Inside i (size l) strand x key strand' x' key'
+inside_left l r strand x key strand' x' key' i h = record {
+  strands = λ g above below. h.strands g above (omega (arith, size_above r));
+  paths = λ g above below. h.paths g above (omega (arith, size_above r));
+  keys = λ g above below. h.keys g above (omega (arith, size_above r));
+}
+
+pub inside_right : (l r : Outline) (strand x key strand' x' key' : ℕ → ℕ) (i : ℕ) → Inside i (size l + size r) strand x key strand' x' key' → Inside (i + size l) (size r) strand x key strand' x' key'
+inside_right l r strand x key strand' x' key' i h = record {
+  strands = λ g above below. h.strands g (omega (arith, size_above l)) (omega arith);
+  paths = λ g above below. h.paths g (omega (arith, size_above l)) (omega arith);
+  keys = λ g above below. h.keys g (omega (arith, size_above l)) (omega arith);
+}
+
 pub top_inside : (t : Outline) (strand x key strand' x' key' : ℕ → ℕ) (i : ℕ)
     → Inside i (size t) strand x key strand' x' key' → top t strand key i ≡ top t strand' key' i
 top_inside Tip strand x key strand' x' key' i h = h.strands i (omega arith) (omega arith)
@@ -86,16 +101,8 @@ module _ {E : Type 0} (c : Symbols E) {K : Held E} (laws : RingLaws c.ring K) wh
       λ j. mark c (c.fuse (h.paths i (omega arith) (omega arith) j) (h.strands i (omega arith) (omega arith) j) (h.paths (i + 1) (omega arith) (omega arith) j))
   inside_same (Branch l r) strand x key strand' x' key' i h =
       let k = i + size l in
-      let in_l : Inside i (size l) strand x key strand' x' key' = record {
-        strands = λ g above below. h.strands g above (omega (arith, size_above r));
-        paths = λ g above below. h.paths g above (omega (arith, size_above r));
-        keys = λ g above below. h.keys g above (omega (arith, size_above r));
-      } in
-      let in_r : Inside (i + size l) (size r) strand x key strand' x' key' = record {
-        strands = λ g above below. h.strands g (omega (arith, size_above l)) (omega arith);
-        paths = λ g above below. h.paths g (omega (arith, size_above l)) (omega arith);
-        keys = λ g above below. h.keys g (omega (arith, size_above l)) (omega arith);
-      } in
+      let in_l : Inside i (size l) strand x key strand' x' key' = inside_left l r strand x key strand' x' key' i h in
+      let in_r : Inside (i + size l) (size r) strand x key strand' x' key' = inside_right l r strand x key strand' x' key' i h in
       let x_i : x i ≡ x' i = h.paths i (omega arith) (omega arith) in
       let x_k : x (i + size l) ≡ x' (i + size l) = h.paths (i + size l) (omega arith) (omega arith) in
       let x_e : x ((i + size l) + size r) ≡ x' ((i + size l) + size r) = h.paths ((i + size l) + size r) (omega arith) (omega arith) in

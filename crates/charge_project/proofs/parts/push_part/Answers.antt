@@ -1,6 +1,6 @@
 use Rattle.std.proofs.Common.{◌≡◌, ◌<◌, ◌-◌, ◌++◌, ◌∷◌, [], ◌∙◌, ℕ, true, List, length, ap, sym, subst, arith, slice_index}
 use Rattle.std.specs.Prelude.{if◌then◌else◌, ◌==◌}
-use Rattle.std.specs.List.{AllByRecursion, filter}
+use Rattle.std.specs.List.{AllByRecursion, each_same, filter}
 use Rattle.std.proofs.lemmas.List.{map-append}
 use Rattle.symbol_table.specs.Category.{draft_symbols}
 use Rattle.tree_shapes.specs.Outlines.{size}
@@ -9,7 +9,7 @@ use Rattle.amp_store.specs.Amplitudes.{amplitude_at}
 use Rattle.recouple.specs.States.{State}
 use Rattle.charge_project.specs.Splits.{any_left, part_at}
 use Rattle.charge_project.proofs.ProjectLemmas.{in_part}
-use Rattle.charge_project.proofs.SplitLemmas.{any_is, keys_reach, same_copy}
+use Rattle.charge_project.proofs.SplitLemmas.{any_is, keys_reach}
 use Rattle.charge_project.proofs.parts.push_part.Given.{Over}
 use Rattle.charge_project.proofs.parts.push_part.Goals as goal
 
@@ -21,7 +21,7 @@ keep_label-requires g c =
 
 module _ (g : Over) (c : goal.After-copy g) where
   strands_are : c.in_ok-strands.strands.items ≡ c.args.state.now.strands
-  strands_are = same_copy c.strands.result.now.items c.in_ok-strands.strands.items c.in_ok-strands.ensures.cases ∙ c.strands.ensures
+  strands_are = each_same c.strands.result.now.items c.in_ok-strands.strands.items c.in_ok-strands.ensures.cases ∙ c.strands.ensures
 
   amps_are : c.in_ok-amps.amps ≡ State.amps (part_at c.args.k c.args.state.now c.args.label)
   amps_are = c.in_ok-amps.ensures ∙ ap (filter (λ (e : List ℕ × g.row.R-Elem.Denot). slice_index e.0 (c.args.k - 1) == c.args.label)) c.amps.ensures
@@ -38,7 +38,7 @@ pub returns-in_ok-push : goal.returns-in_ok-push
 returns-in_ok-push g c =
     let now = c.args.state.now in
     let old = parts_of (λ s. s) c.args.parts.now.items in
-    let strands : c.in_ok-strands.strands.items ≡ c.args.state.now.strands = same_copy c.strands.result.now.items c.in_ok-strands.strands.items c.in_ok-strands.ensures.cases ∙ c.strands.ensures in
+    let strands : c.in_ok-strands.strands.items ≡ c.args.state.now.strands = each_same c.strands.result.now.items c.in_ok-strands.strands.items c.in_ok-strands.ensures.cases ∙ c.strands.ensures in
     let amps : c.in_ok-amps.amps ≡ State.amps (part_at c.args.k c.args.state.now c.args.label) =
     c.in_ok-amps.ensures ∙ ap (filter (λ (e : List ℕ × g.row.R-Elem.Denot). slice_index e.0 (c.args.k - 1) == c.args.label)) c.amps.ensures in
     let state : c.with_parts-part.result ≡ part_at c.args.k c.args.state.now c.args.label = λ j. record {

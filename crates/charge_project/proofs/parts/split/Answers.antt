@@ -4,7 +4,8 @@ use Rattle.symbol_table.specs.Category.{draft_symbols}
 use Rattle.amp_store.specs.Amplitudes.{AreAmplitudes}
 use Rattle.word_runs.specs.Parts.{parts_of}
 use Rattle.charge_project.specs.Splits.{parts_below}
-use Rattle.charge_project.proofs.ProjectLemmas.{pair_there, part_of, project_is}
+use Rattle.recouple.proofs.PairLemmas.{pair_there}
+use Rattle.charge_project.proofs.ProjectLemmas.{part_of, project_is}
 use Rattle.charge_project.proofs.SplitLemmas.{parts_more, some_parts}
 use Rattle.charge_project.proofs.parts.split.Goals as goal
 
