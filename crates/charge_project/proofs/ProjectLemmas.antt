@@ -1,36 +1,30 @@
 -- A part stands for the comb projection.
-use Rattle.std.proofs.Common.{◌≡◌, ℕ, zero, suc, ◌+◌, ◌-◌, ◌<◌, Bool, true, false, List, [], ◌∷◌, Option, Some, None, unwrap_or, length, get_or, set, get_or-set_same, get_or-set_other, refl, ap, sym, ◌∙◌, arith, slice_index, slice_set, inl, inr}
+use Rattle.std.proofs.Common.{◌≡◌, ℕ, ◌+◌, ◌-◌, ◌<◌, Bool, true, false, List, [], ◌∷◌, Option, Some, None, unwrap_or, length, refl, ap, sym, ◌∙◌, arith, slice_index, slice_set, inl, inr}
 use mathlib.Core.Path.{fun_ext}
-use Rattle.std.specs.Prelude.{if◌then◌else◌, ◌==◌, ◌&&◌, nat_lt, IsTrue}
-use Rattle.std.specs.Option.{is_none}
+use Rattle.std.specs.Prelude.{if◌then◌else◌, ◌==◌, nat_lt, IsTrue}
 use Rattle.std.specs.List.{filter}
 use Rattle.std.specs.Str.{bytes_eq}
-use Rattle.std.proofs.lemmas.Bool.Decides.{eqb_tells, nat_tests}
+use Rattle.std.proofs.lemmas.Bool.Decides.{nat_tests}
 use Rattle.std.proofs.lemmas.Slice.Eq.{bytes_eq-Decides}
 use Rattle.ring_laws.specs.Ring.{RingLaws}
 use Rattle.ring_laws.specs.Sums.{total}
 use Rattle.ring_laws.proofs.SumLemmas as S
 use Rattle.symbol_table.specs.AllLabels.{IsProper, HasEquations, mark}
 use Rattle.symbol_table.specs.Symbols.{Symbols}
-use Rattle.tree_shapes.specs.Contexts.{Around, fill, place}
-use Rattle.tree_shapes.specs.Outlines.{Outline, Tip, Branch, Standing, size, gap_of, left_gap, left_under, right_gap, right_under}
-use Rattle.tree_shapes.specs.Settling.{is_pair_at}
-use Rattle.tree_shapes.proofs.SettleLemmas.{node_there, node_filled}
+use Rattle.tree_shapes.specs.Contexts.{place}
+use Rattle.tree_shapes.specs.Outlines.{size}
 use Rattle.comb_laws.specs.Operators.{charge_kernel, projected, term_at}
-use Rattle.comb_laws.specs.Paths.{Path, goes_on, is_path}
-use Rattle.comb_laws.proofs.PathFacts.{and_true, goes_long}
+use Rattle.comb_laws.specs.Paths.{Path, is_path}
 use Rattle.tree_laws.specs.Entries.{listed, values}
-use Rattle.tree_laws.specs.Laws.{pair}
 use Rattle.tree_laws.specs.Trees.{put, stands_for}
-use Rattle.tree_laws.proofs.EntryLemmas.{comb_is}
 use Rattle.tree_laws.proofs.Equations as Q
-use Rattle.tree_laws.proofs.Keys.{Key, put_here, put_off, same_key}
+use Rattle.tree_laws.proofs.Keys.{Key}
 use Rattle.tree_laws.proofs.Pairs.{split_is}
 use Rattle.amp_store.specs.Amplitudes.{AreAmplitudes, amplitude_at}
 use Rattle.amp_store.proofs.CopyLemmas.{amplitudes_part}
 use Rattle.recouple.specs.Raises.{AreOver}
 use Rattle.recouple.specs.States.{State, IsStateOf, comb}
-use Rattle.recouple.proofs.CombLemmas.{over_keys, sums_are, value_is}
+use Rattle.recouple.proofs.CombLemmas.{value_is}
 use Rattle.recouple.proofs.RotationLemmas.{listed_get}
 use Rattle.recouple.proofs.PairLemmas.{IsPair, stands_at}
 use Rattle.recouple.proofs.PathPlaces.{ByPlace, path_set, path_tells, set_is}
