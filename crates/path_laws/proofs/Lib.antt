@@ -1,1 +1,5 @@
+pub mod ActLemmas
+pub mod ListWeights
+pub mod OneLabel
 pub mod PlaceLemmas
+pub mod PlaceWeights

@@ -1,6 +1,11 @@
-//! The laws of comb vectors: weights, braid moves and measurements along paths.
+//! The laws of comb vectors: what braids and measurements keep, and in which orders they may be made.
 //!
 //! Glossary:
-//! - *by place*: a path, or the strands, as a function of the place, as `tree_laws` has them; on lists they are those of
-//!   `comb_laws` (`proofs/PlaceLemmas.antt`).
+//! - *comb path*, *comb vector*, *operator*, *comb braid*, *comb projection*, *comb weight*: those of `comb_laws`, on lists
+//!   of labels.
+//! - *weights*: a braid keeps the weight, and the charges at a gap share it (`specs/Weights.antt`).
+//! - *by place*: a path, the strands and a vector as functions of the place, as `tree_laws` has them; a vector on lists is
+//!   one by place where both agree at each path (`proofs/ActLemmas.antt`).
 #![tactic(auto)]
+
+pub mod laws;

@@ -1,0 +1,20 @@
+//! What the laws of a category say of braids and measurements on comb vectors.
+
+ghost use Rattle.path_laws.specs.Weights.{BraidsKeepWeight, ChargesShareWeight};
+ghost use Rattle.symbol_table.specs.Category.{symbols};
+
+use ring_laws::StarRing;
+use symbol_table::Category;
+use symbol_table::laws::all_labels;
+
+/// A braid keeps the weight of a vector, and the charges at a gap share it. Both hold of every vector over any number of
+/// strands, since a weight and an operator see a vector at paths alone, and there by products.
+///
+/// It rests on F and H being inverse and adjoint in the inner products that the weights give, and on R keeping them.
+pub fn weights<R: StarRing>(category: &Category<R>)
+    ensures braids { BraidsKeepWeight (symbols R.StarRing category.now) }
+    ensures charges { ChargesShareWeight (symbols R.StarRing category.now) }
+{
+    // What the symbols obey at all labels.
+    all_labels(category);
+}
