@@ -76,6 +76,15 @@ pub record After (ss after : List ℕ) (i : ℕ) : Type 0 where
   pub long : length after ≡ length ss
   pub others : (g : ℕ) → (g ≡ i → ⊥) → (g ≡ i + 1 → ⊥) → slice_index after g ≡ slice_index ss g
 
+-- the strands after an operator, by place
+abbrev pub moved : Operator → ℕ → Key → Key
+moved (Exchange sign) i strand = swapped i strand
+moved (Project q) i strand = strand
+
+pub moved_is : (operator : Operator) (ss : List ℕ) (i k : ℕ) → k ≡ i + 1 → k < length ss → slice_index (strands_after operator ss k) ≡ moved operator i (slice_index ss)
+moved_is (Exchange sign) ss i k at low = swapped_is ss i k at low
+moved_is (Project q) ss i k at low = refl
+
 pub after_is : (operator : Operator) (ss : List ℕ) (i k : ℕ) → k ≡ i + 1 → k < length ss → After ss (strands_after operator ss k) i
 after_is (Exchange sign) ss i k at low = record {
   long = length-swapped ss k;

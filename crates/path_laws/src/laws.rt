@@ -1,5 +1,6 @@
 //! What the laws of a category say of braids and measurements on comb vectors.
 
+ghost use Rattle.path_laws.specs.Moves.{FarOperatorsCommute};
 ghost use Rattle.path_laws.specs.Weights.{BraidsKeepWeight, ChargesShareWeight};
 ghost use Rattle.symbol_table.specs.Category.{symbols};
 
@@ -14,6 +15,17 @@ use symbol_table::laws::all_labels;
 pub fn weights<R: StarRing>(category: &Category<R>)
     ensures braids { BraidsKeepWeight (symbols R.StarRing category.now) }
     ensures charges { ChargesShareWeight (symbols R.StarRing category.now) }
+{
+    // What the symbols obey at all labels.
+    all_labels(category);
+}
+
+/// Any two operators at gaps with another one between them may be made in either order, on every vector, and leave the
+/// same strands.
+///
+/// It rests on the symbols being zero where not admissible, and on no equation.
+pub fn far_commutation<R: StarRing>(category: &Category<R>)
+    ensures { FarOperatorsCommute (symbols R.StarRing category.now) }
 {
     // What the symbols obey at all labels.
     all_labels(category);

@@ -4,6 +4,7 @@
 //! - *comb path*, *comb vector*, *operator*, *comb braid*, *comb projection*, *comb weight*: those of `comb_laws`, on lists
 //!   of labels.
 //! - *weights*: a braid keeps the weight, and the charges at a gap share it (`specs/Weights.antt`).
+//! - *far commutation*: operators at gaps that aren't neighbours may be made in either order (`specs/Moves.antt`).
 //! - *by place*: a path, the strands and a vector as functions of the place, as `tree_laws` has them; a vector on lists is
 //!   one by place where both agree at each path (`proofs/ActLemmas.antt`).
 #![tactic(auto)]
