@@ -1,4 +1,5 @@
 pub mod ActLemmas
+pub mod CancelLemmas
 pub mod FarLemmas
 pub mod ListWeights
 pub mod OneLabel

@@ -1,6 +1,6 @@
 //! What the laws of a category say of braids and measurements on comb vectors.
 
-ghost use Rattle.path_laws.specs.Moves.{FarOperatorsCommute};
+ghost use Rattle.path_laws.specs.Moves.{BraidsCancel, FarOperatorsCommute, OperatorsStayOver, StartsAreOver, StatesAreOver};
 ghost use Rattle.path_laws.specs.Weights.{BraidsKeepWeight, ChargesShareWeight};
 ghost use Rattle.symbol_table.specs.Category.{symbols};
 
@@ -26,6 +26,20 @@ pub fn weights<R: StarRing>(category: &Category<R>)
 /// It rests on the symbols being zero where not admissible, and on no equation.
 pub fn far_commutation<R: StarRing>(category: &Category<R>)
     ensures { FarOperatorsCommute (symbols R.StarRing category.now) }
+{
+    // What the symbols obey at all labels.
+    all_labels(category);
+}
+
+/// A braid and its inverse at one gap, in either order, give back the strands and the vector, where it has members of
+/// the ring at paths and zero elsewhere. The vectors of starts, of states, and of operators are such.
+///
+/// It rests on F and H being inverse, and on R and S being so by the weights.
+pub fn cancellation<R: StarRing>(category: &Category<R>)
+    ensures cancel { BraidsCancel (symbols R.StarRing category.now) }
+    ensures starts { StartsAreOver (symbols R.StarRing category.now) }
+    ensures states { StatesAreOver (symbols R.StarRing category.now) }
+    ensures operators { OperatorsStayOver (symbols R.StarRing category.now) }
 {
     // What the symbols obey at all labels.
     all_labels(category);
