@@ -19,7 +19,8 @@ use Rattle.tree_laws.specs.Trees.{put}
 use Rattle.tree_laws.proofs.EntryLemmas.{at_listed}
 use Rattle.tree_laws.proofs.Equations as Q
 use Rattle.tree_laws.proofs.Keys.{Key, put_here, put_off, put_swap, same_key}
-use Rattle.path_laws.proofs.PlaceLemmas.{listed_again, path_long, swapped_off}
+use Rattle.path_laws.proofs.Across.{IsAt, across, swapped_off}
+use Rattle.path_laws.proofs.PlaceLemmas.{listed_again, path_long}
 
 -- a path by its places: the unit first, and each label occurs in the one before times its strand
 pub record GoesAt {E : Type 0} (c : Symbols E) (ss : List ℕ) (x : Path) : Type 0 where
@@ -155,10 +156,6 @@ module _ {E : Type 0} (c : Symbols E) {K : Held E} (laws : RingLaws c.ring K) (p
   abbrev pub IsByPlace : List ℕ → Vector E → (Key → E) → Type 0
   IsByPlace ss v V = (x : Path) → is_path c ss x ≡ true → v x ≡ V (slice_index x)
 
-  -- an operator at gap i + 1, on vectors by place
-  abbrev pub across : Kernel E → Key → ℕ → (Key → E) → Key → E
-  across kernel strand i V x = total c.ring c.count (λ t. o (kernel (x i) (strand i) (strand (i + 1)) (x (i + 2)) t (x (i + 1))) (V (put (i + 1) t x)))
-
   -- zero from a label that makes no path
   abbrev pub IsOff : Kernel E → Type 0
   IsOff kernel = (p a b y t u : ℕ) → goes_left c p a b y t ≡ false → kernel p a b y t u ≡ c.ring.zero
@@ -175,7 +172,7 @@ module _ {E : Type 0} (c : Symbols E) {K : Held E} (laws : RingLaws c.ring K) (p
 
   -- An operator on a vector is that on the vector by place.
   pub acted_by_place : (kernel : Kernel E) → IsOff kernel → (ss after : List ℕ) (i k : ℕ) → k ≡ i + 1 → k < length ss → After ss after i
-      → (v : Vector E) (V : Key → E) → IsByPlace ss v V → IsByPlace after (acted c ss after k kernel v) (across kernel (slice_index ss) i V)
+      → (v : Vector E) (V : Key → E) → IsByPlace ss v V → IsByPlace after (acted c ss after k kernel v) (across c kernel (slice_index ss) i V)
   acted_by_place kernel off ss after i k at low same v V is x path =
       S.if_yes _ _ c.ring.zero path
       ∙ (S.total_same laws c.count _ _ (λ t _. term t)
@@ -235,3 +232,15 @@ module _ {E : Type 0} (c : Symbols E) {K : Held E} (laws : RingLaws c.ring K) (p
             absurd (Q.clash _ off ((λ m. c.fuse (sym first m) (slice_index ss j) (sym second m)) ∙ g.fuses j low))
         | inr no' ↦ S.if_no _ (v (listed 0 (length ss + 1) x)) _ no'
       ]
+
+  -- it is zero where the label at a gap makes no path
+  pub at_places_at : (ss : List ℕ) (v : Vector E) (i k : ℕ) → k ≡ i + 1 → k < length ss → ((x : Path) → IsTrue (c.ring.member (v x))) → IsAt c (slice_index ss) i (at_places ss v)
+  at_places_at ss v i k at low is = record {
+    members = at_places_member ss v is;
+    off = λ x off. elim (Q.either_off (c.fuse (x i) (slice_index ss i) (x (i + 1))) (c.fuse (x (i + 1)) (slice_index ss (i + 1)) (x (i + 2))) off) [
+      | inl first ↦ at_places_off ss v x i (omega (arith, at, low)) first
+      | inr second ↦
+          let next : i + 2 ≡ (i + 1) + 1 = omega arith in
+          at_places_off ss v x (i + 1) (omega (arith, at, low)) ((λ j. c.fuse (x (i + 1)) (slice_index ss (i + 1)) (x (sym next j))) ∙ second)
+    ];
+  }

@@ -5,9 +5,8 @@ use Rattle.std.specs.Prelude.{if◌then◌else◌, IsTrue}
 use Rattle.std.proofs.lemmas.Bool.Decides.{eqb_tells}
 use Rattle.std.proofs.lemmas.Grind.{same_number_lists}
 use Rattle.ring_laws.specs.Ring.{Held, RingLaws}
-use Rattle.ring_laws.specs.Sums.{total}
 use Rattle.ring_laws.proofs.SumLemmas as S
-use Rattle.symbol_table.specs.AllLabels.{IsProper, HasEquations, IsWeighted, goes_left}
+use Rattle.symbol_table.specs.AllLabels.{IsProper, HasEquations, IsWeighted}
 use Rattle.symbol_table.specs.Symbols.{Symbols}
 use Rattle.comb_laws.specs.Amplitudes.{path_amplitude}
 use Rattle.comb_laws.specs.Operators.{Kernel, acted, braid_kernel, exchange_by, strands_after}
@@ -19,23 +18,14 @@ use Rattle.program_text.specs.declared.plan.Sign.TheVariants.{Plus, Minus}
 use Rattle.tree_shapes.specs.Labelled.{Labelled, Strand, Joined, leaves}
 use Rattle.tree_laws.specs.Operators.{braid_by, swapped}
 use Rattle.tree_laws.specs.Trees.{put}
-use Rattle.tree_laws.proofs.Equations as Q
-use Rattle.tree_laws.proofs.Keys.{Key, put_here, put_off, put_again, same_key}
+use Rattle.tree_laws.proofs.Keys.{Key, same_key}
 use Rattle.path_laws.specs.Moves.{BraidsCancel, IsOver, OperatorsStayOver, StartsAreOver, StatesAreOver, opposite}
 use Rattle.path_laws.proofs.ActLemmas as A
 use Rattle.path_laws.proofs.ActLemmas.{after_is, length-swapped, swapped_is}
 use Rattle.path_laws.proofs.ListWeights.{exchange_is}
 use Rattle.path_laws.proofs.OneLabel.{r_undoes_s, s_undoes_r}
 use Rattle.path_laws.proofs.OneLabel as L
-use Rattle.path_laws.proofs.PlaceLemmas.{swapped_first, swapped_second, swapped_off}
-use Rattle.path_laws.proofs.PlaceWeights.{IsAt}
-
-pub put_own : (k : ℕ) (x : Key) → put k (x k) x ≡ x
-put_own k x = same_key _ _ (λ g.
-    elim (eqb_tells g k) [
-      | inl here ↦ S.if_yes _ (x k) (x g) here.0 ∙ ap x (sym here.1)
-      | inr off ↦ put_off k (x k) x g off.1
-    ])
+use Rattle.path_laws.proofs.Across.{IsAt, across, across_put, none_put, put_own, swapped_first, swapped_second, swapped_off}
 
 -- strands swapped and swapped back
 swapped_again : (i : ℕ) (s : Key) → swapped i (swapped i s) ≡ s
@@ -93,42 +83,14 @@ module _ {E : Type 0} (c : Symbols E) {K : Held E} (laws : RingLaws c.ring K) wh
     undoes Plus a b q is = r_undoes_s c laws proper weighted a b q is
     undoes Minus a b q is = s_undoes_r c laws proper weighted a b q is
 
-    -- a vector by place
-    at_is : (ss : List ℕ) (v : Vector E) (i k : ℕ) → k ≡ i + 1 → k < length ss → IsOver c ss v → IsAt c (slice_index ss) i (A.at_places c laws proper ss v)
-    at_is ss v i k at low over = record {
-      members = A.at_places_member c laws proper ss v over.members;
-      off = λ x off. elim (Q.either_off (c.fuse (x i) (slice_index ss i) (x (i + 1))) (c.fuse (x (i + 1)) (slice_index ss (i + 1)) (x (i + 2))) off) [
-        | inl first ↦ A.at_places_off c laws proper ss v x i (omega (arith, at, low)) first
-        | inr second ↦
-            let next : i + 2 ≡ (i + 1) + 1 = omega arith in
-            A.at_places_off c laws proper ss v x (i + 1) (omega (arith, at, low)) ((λ j. c.fuse (x (i + 1)) (slice_index ss (i + 1)) (x (sym next j))) ∙ second)
-      ];
-    }
-
     -- by place, a braid at gap i + 1 goes over the label there
     cancelled_across : (sign : Sign) (strand x : Key) (i : ℕ) (V : Key → E) → IsAt c strand i V
-        → A.across c laws proper (braid_kernel c (opposite sign)) (swapped i strand) i (A.across c laws proper (braid_kernel c sign) strand i V) x ≡ V x
+        → across c (braid_kernel c (opposite sign)) (swapped i strand) i (across c (braid_kernel c sign) strand i V) x ≡ V x
     cancelled_across sign strand x i V is =
-        S.total_same laws c.count _ _ (λ t _. λ j. o (braid_by c (exchange_by c (opposite sign)) (x i) (swapped_first i strand j) (swapped_second i strand j) (x (i + 2)) t (x (i + 1))) (once t j))
+        S.total_same laws c.count _ _ (λ t _. λ j. o (braid_by c (exchange_by c (opposite sign)) (x i) (swapped_first i strand j) (swapped_second i strand j) (x (i + 2)) t (x (i + 1))) (across_put c (braid_kernel c sign) strand x i t V j))
         ∙ (L.cancelled c laws proper equations (exchange_by c sign) (exchange_by c (opposite sign)) (exchange_is c laws proper equations weighted sign) (exchange_is c laws proper equations weighted (opposite sign))
-        (undoes sign) (x i) (strand i) (strand (i + 1)) (x (i + 2)) (λ t. V (put (i + 1) t x)) (λ t. is.members _) none (x (i + 1))
+        (undoes sign) (x i) (strand i) (strand (i + 1)) (x (i + 2)) (λ t. V (put (i + 1) t x)) (λ t. is.members _) (none_put c strand i V is x) (x (i + 1))
         ∙ ap V (put_own (i + 1) x))
-      where
-        before : (t : ℕ) → put (i + 1) t x i ≡ x i
-        before t = put_off (i + 1) t x i (λ e. omega arith)
-
-        here : (t : ℕ) → put (i + 1) t x (i + 1) ≡ t
-        here t = put_here (i + 1) t x
-
-        after : (t : ℕ) → put (i + 1) t x (i + 2) ≡ x (i + 2)
-        after t = put_off (i + 1) t x (i + 2) (λ e. omega arith)
-
-        once : (t : ℕ) → A.across c laws proper (braid_kernel c sign) strand i V (put (i + 1) t x)
-            ≡ L.act c laws proper equations (exchange_by c sign) (x i) (strand i) (strand (i + 1)) (x (i + 2)) (λ t. V (put (i + 1) t x)) t
-        once t = λ j. total c.ring c.count (λ r. o (braid_by c (exchange_by c sign) (before t j) (strand i) (strand (i + 1)) (after t j) r (here t j)) (V (put_again (i + 1) r t x j)))
-
-        none : (t : ℕ) → goes_left c (x i) (strand i) (strand (i + 1)) (x (i + 2)) t ≡ false → V (put (i + 1) t x) ≡ c.ring.zero
-        none t off = is.off (put (i + 1) t x) ((λ j. goes_left c (before t j) (strand i) (strand (i + 1)) (after t j) (here t j)) ∙ off)
 
     pub braids_cancel : BraidsCancel c
     braids_cancel ss v k sign above low over m = (back m, vectors m)
@@ -156,10 +118,10 @@ module _ {E : Type 0} (c : Symbols E) {K : Held E} (laws : RingLaws c.ring K) wh
             let there : is_path c (C.swapped mid k) x ≡ true = ap (λ l. is_path c l x) back ∙ path in
             (λ j. acted c mid (sym back j) k (braid_kernel c (opposite sign)) once x)
             ∙ (A.acted_by_place c laws proper (braid_kernel c (opposite sign)) (A.kernel_off c laws proper (Exchange (opposite sign))) mid (C.swapped mid k) (k - 1) k at low' (after_is (Exchange (opposite sign)) mid (k - 1) k at low')
-            once (A.across c laws proper (braid_kernel c sign) (slice_index ss) (k - 1) V)
+            once (across c (braid_kernel c sign) (slice_index ss) (k - 1) V)
             (A.acted_by_place c laws proper (braid_kernel c sign) (A.kernel_off c laws proper (Exchange sign)) ss mid (k - 1) k at low (after_is (Exchange sign) ss (k - 1) k at low) v V is) x there
-            ∙ ((λ j. A.across c laws proper (braid_kernel c (opposite sign)) (swapped_is ss (k - 1) k at low j) (k - 1) (A.across c laws proper (braid_kernel c sign) (slice_index ss) (k - 1) V) (slice_index x))
-            ∙ (cancelled_across sign (slice_index ss) (slice_index x) (k - 1) V (at_is ss v (k - 1) k at low over)
+            ∙ ((λ j. across c (braid_kernel c (opposite sign)) (swapped_is ss (k - 1) k at low j) (k - 1) (across c (braid_kernel c sign) (slice_index ss) (k - 1) V) (slice_index x))
+            ∙ (cancelled_across sign (slice_index ss) (slice_index x) (k - 1) V (A.at_places_at c laws proper ss v (k - 1) k at low over.members)
             ∙ sym (is x path))))
 
         pick : (x : Path) (b : Bool) → is_path c ss x ≡ b → acted c mid ss k (braid_kernel c (opposite sign)) once x ≡ v x

@@ -16,7 +16,7 @@ use Rattle.tree_laws.proofs.Keys.{Key, put_off, put_swap}
 use Rattle.path_laws.specs.Moves.{FarOperatorsCommute}
 use Rattle.path_laws.proofs.ActLemmas as A
 use Rattle.path_laws.proofs.ActLemmas.{after_is, moved, moved_is}
-use Rattle.path_laws.proofs.PlaceLemmas.{swapped_off}
+use Rattle.path_laws.proofs.Across.{across, swapped_off}
 
 -- the strands after both, in either order
 far_swapped : (i j : ℕ) (s : Key) → i + 1 < j → swapped j (swapped i s) ≡ swapped i (swapped j s)
@@ -65,7 +65,7 @@ module _ {E : Type 0} (c : Symbols E) {K : Held E} (laws : RingLaws c.ring K) (p
   -- s' is s with other strands at i, and s'' is s with other strands at j
   far_across : (M N : Kernel E) (s s' s'' x : Key) (i j : ℕ) (V : Key → E) → i + 1 < j
       → s' j ≡ s j → s' (j + 1) ≡ s (j + 1) → s'' i ≡ s i → s'' (i + 1) ≡ s (i + 1)
-      → A.across c laws proper N s' j (A.across c laws proper M s i V) x ≡ A.across c laws proper M s'' i (A.across c laws proper N s j V) x
+      → across c N s' j (across c M s i V) x ≡ across c M s'' i (across c N s j V) x
   far_across M N s s' s'' x i j V apart a b d e =
       S.total_same laws c.count _ _ (λ t _. ap₂ o
       (λ k. N (x j) (a k) (b k) (x (j + 2)) t (x (j + 1)))
@@ -131,7 +131,7 @@ module _ {E : Type 0} (c : Symbols E) {K : Held E} (laws : RingLaws c.ring K) (p
           let is = A.at_places_is c laws proper ss v in
           let strands = far_strands first second ss i j above far low in
           A.acted_by_place c laws proper N (A.kernel_off c laws proper second) once (strands_after second once j) (j - 1) j at_j low_j (after_is second once (j - 1) j at_j low_j)
-          (acted c ss once i M v) (A.across c laws proper M S (i - 1) V)
+          (acted c ss once i M v) (across c M S (i - 1) V)
           (A.acted_by_place c laws proper M (A.kernel_off c laws proper first) ss once (i - 1) i at_i low_i first_is v V is) x path
           ∙ (far_across M N S (slice_index once) (slice_index other) (slice_index x) (i - 1) (j - 1) V (omega (arith, above, far))
           (first_is.others (j - 1) (λ e. omega (arith, far, e)) (λ e. omega (arith, above, far, e)))
@@ -139,7 +139,7 @@ module _ {E : Type 0} (c : Symbols E) {K : Held E} (laws : RingLaws c.ring K) (p
           (second_is.others (i - 1) (λ e. omega (arith, above, far, e)) (λ e. omega (arith, above, far, e)))
           (second_is.others ((i - 1) + 1) (λ e. omega (arith, above, far, e)) (λ e. omega (arith, above, far, e)))
           ∙ (sym (A.acted_by_place c laws proper M (A.kernel_off c laws proper first) other (strands_after first other i) (i - 1) i at_i low_i' (after_is first other (i - 1) i at_i low_i')
-          (acted c ss other j N v) (A.across c laws proper N S (j - 1) V)
+          (acted c ss other j N v) (across c N S (j - 1) V)
           (A.acted_by_place c laws proper N (A.kernel_off c laws proper second) ss other (j - 1) j at_j low second_is v V is) x (ap (λ l. is_path c l x) (sym strands) ∙ path))
           ∙ (λ k. acted c other (sym strands k) i M (acted c ss other j N v) x)))
 

@@ -1,3 +1,4 @@
+pub mod Across
 pub mod ActLemmas
 pub mod CancelLemmas
 pub mod FarLemmas
@@ -5,3 +6,5 @@ pub mod ListWeights
 pub mod OneLabel
 pub mod PlaceLemmas
 pub mod PlaceWeights
+pub mod ThreeStrands
+pub mod YangBaxter

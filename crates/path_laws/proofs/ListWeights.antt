@@ -1,5 +1,5 @@
 -- Braids keep the weight of vectors, and charges share it.
-use Rattle.std.proofs.Common.{◌≡◌, ℕ, ◌+◌, ◌-◌, ◌<◌, List, length, ap, sym, ◌∙◌, arith, inl, inr, slice_index}
+use Rattle.std.proofs.Common.{◌≡◌, ℕ, ◌+◌, ◌-◌, ◌<◌, List, length, ap, sym, ◌∙◌, arith, slice_index}
 use Rattle.std.specs.Prelude.{if◌then◌else◌}
 use Rattle.ring_laws.specs.Ring.{Held, RingLaws}
 use Rattle.ring_laws.specs.Sums.{total, sum_over}
@@ -13,7 +13,6 @@ use Rattle.program_text.specs.declared.plan.Sign.{Sign}
 use Rattle.program_text.specs.declared.plan.Sign.TheVariants.{Plus, Minus}
 use Rattle.tree_laws.specs.Operators as O
 use Rattle.tree_laws.specs.Weights as T
-use Rattle.tree_laws.proofs.Equations as Q
 use Rattle.tree_laws.proofs.Isometry as I
 use Rattle.path_laws.specs.Weights.{BraidsKeepWeight, ChargesShareWeight}
 use Rattle.path_laws.proofs.ActLemmas as A
@@ -21,7 +20,7 @@ use Rattle.path_laws.proofs.ActLemmas.{after_is, length-swapped, swapped_is}
 use Rattle.path_laws.proofs.OneLabel.{IsExchange, r_exchanges, s_exchanges}
 use Rattle.path_laws.proofs.PlaceLemmas.{weight_by_place}
 use Rattle.path_laws.proofs.PlaceWeights as W
-use Rattle.path_laws.proofs.PlaceWeights.{IsAt}
+use Rattle.path_laws.proofs.Across.{IsAt}
 
 module _ {E : Type 0} (c : Symbols E) {K : Held E} (laws : RingLaws c.ring K) where
   abbrev o : E → E → E
@@ -62,16 +61,8 @@ module _ {E : Type 0} (c : Symbols E) {K : Held E} (laws : RingLaws c.ring K) wh
     exchange_is Minus = s_exchanges c laws proper weighted equations
 
     -- a vector times one, by place
-    pub is_at : (ss : List ℕ) (v : Vector E) (i k : ℕ) → k ≡ i + 1 → k < length ss → IsAt c (slice_index ss) i (A.at_places c laws proper ss (by_one v))
-    is_at ss v i k at low = record {
-      members = A.at_places_member c laws proper ss (by_one v) (λ x. laws.product_is _ _);
-      off = λ x off. elim (Q.either_off (c.fuse (x i) (slice_index ss i) (x (i + 1))) (c.fuse (x (i + 1)) (slice_index ss (i + 1)) (x (i + 2))) off) [
-        | inl first ↦ A.at_places_off c laws proper ss (by_one v) x i (omega (arith, at, low)) first
-        | inr second ↦
-            let next : i + 2 ≡ (i + 1) + 1 = omega arith in
-            A.at_places_off c laws proper ss (by_one v) x (i + 1) (omega (arith, at, low)) ((λ j. c.fuse (x (i + 1)) (slice_index ss (i + 1)) (x (sym next j))) ∙ second)
-      ];
-    }
+    is_at : (ss : List ℕ) (v : Vector E) (i k : ℕ) → k ≡ i + 1 → k < length ss → IsAt c (slice_index ss) i (A.at_places c laws proper ss (by_one v))
+    is_at ss v i k at low = A.at_places_at c laws proper ss (by_one v) i k at low (λ x. laws.product_is _ _)
 
     pub braids_keep : BraidsKeepWeight c
     braids_keep ss v sign k above low =

@@ -13,23 +13,12 @@ use Rattle.comb_laws.specs.Operators as C
 use Rattle.comb_laws.specs.Paths.{Path, Vector, goes_on, is_path, labels, ways, paths}
 use Rattle.comb_laws.proofs.PathFacts.{and_true, goes_long}
 use Rattle.tree_laws.specs.Entries.{listed}
-use Rattle.tree_laws.specs.Operators.{swapped}
 use Rattle.tree_laws.specs.Trees.{put, at_gap, at_gaps}
 use Rattle.tree_laws.specs.Weights.{along}
 use Rattle.tree_laws.specs.Weights as T
 use Rattle.tree_laws.proofs.EntryLemmas.{length-listed, at_listed}
 use Rattle.tree_laws.proofs.Equations as Q
 use Rattle.tree_laws.proofs.Keys.{Key, put_here, put_off, same_key}
-
--- strands with those on both sides of gap i + 1 swapped
-pub swapped_first : (i : ℕ) (s : Key) → swapped i s i ≡ s (i + 1)
-swapped_first i s = put_here i (s (i + 1)) (put (i + 1) (s i) s)
-
-pub swapped_second : (i : ℕ) (s : Key) → swapped i s (i + 1) ≡ s i
-swapped_second i s = put_off i (s (i + 1)) (put (i + 1) (s i) s) (i + 1) (λ e. omega arith) ∙ put_here (i + 1) (s i) s
-
-pub swapped_off : (i : ℕ) (s : Key) (g : ℕ) → (g ≡ i → ⊥) → (g ≡ i + 1 → ⊥) → swapped i s g ≡ s g
-swapped_off i s g a b = put_off i (s (i + 1)) (put (i + 1) (s i) s) g a ∙ put_off (i + 1) (s i) s g b
 
 -- the labels of a list put at the places after i
 abbrev pub placed : ℕ → List ℕ → Key → Key

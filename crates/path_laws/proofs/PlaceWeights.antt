@@ -1,24 +1,19 @@
 -- A braid at a gap keeps the weight of a vector by place, and the charges at a gap share it.
-use Rattle.std.proofs.Common.{◌≡◌, ℕ, zero, suc, ◌+◌, ◌-◌, ◌<◌, ◌≤◌, false, refl, ap, ap₂, sym, ◌∙◌, arith}
-use Rattle.std.specs.Prelude.{IsTrue}
+use Rattle.std.proofs.Common.{◌≡◌, ℕ, zero, suc, ◌+◌, ◌-◌, ◌<◌, ◌≤◌, refl, ap, ap₂, sym, ◌∙◌, arith}
 use Rattle.ring_laws.specs.Ring.{Held, RingLaws}
 use Rattle.ring_laws.specs.Sums.{total}
 use Rattle.ring_laws.proofs.SumLemmas as S
-use Rattle.symbol_table.specs.AllLabels.{IsProper, HasEquations, IsWeighted, goes_left}
+use Rattle.symbol_table.specs.AllLabels.{IsProper, HasEquations, IsWeighted}
 use Rattle.symbol_table.specs.Symbols.{Symbols}
+use Rattle.comb_laws.specs.Operators.{charge_kernel}
 use Rattle.tree_laws.specs.Operators.{braid_by, swapped, braided, projected}
 use Rattle.tree_laws.specs.Trees.{put, at_gap}
 use Rattle.tree_laws.specs.Weights.{along, weight}
-use Rattle.tree_laws.proofs.Keys.{Key, put_here, put_off, put_again, gaps_by_one}
+use Rattle.tree_laws.proofs.Keys.{Key, put_off, gaps_by_one}
 use Rattle.tree_laws.proofs.Pairs.{gaps_total}
 use Rattle.path_laws.proofs.OneLabel.{IsExchange}
 use Rattle.path_laws.proofs.OneLabel as L
-use Rattle.path_laws.proofs.PlaceLemmas.{swapped_first, swapped_second, swapped_off}
-
--- a vector by place whose values are members, zero where the label between the strands at a place makes no path
-pub record IsAt {E : Type 0} (c : Symbols E) (strand : Key) (i : ℕ) (v : Key → E) : Type 0 where
-  pub members : (x : Key) → IsTrue (c.ring.member (v x))
-  pub off : (x : Key) → goes_left c (x i) (strand i) (strand (i + 1)) (x (i + 2)) (x (i + 1)) ≡ false → v x ≡ c.ring.zero
+use Rattle.path_laws.proofs.Across.{IsAt, across_put, at_put, none_put, swapped_first, swapped_second, swapped_off}
 
 module _ {E : Type 0} (c : Symbols E) {K : Held E} (laws : RingLaws c.ring K) where
   abbrev o : E → E → E
@@ -69,23 +64,13 @@ module _ {E : Type 0} (c : Symbols E) {K : Held E} (laws : RingLaws c.ring K) wh
   at_one strand x i m v =
       S.total_same laws c.count _ _ (λ t _.
       let z = put (i + 1) t x in
-      let before : put (i + 1) t x i ≡ x i = put_off (i + 1) t x i (λ e. omega arith) in
-      let here : put (i + 1) t x (i + 1) ≡ t = put_here (i + 1) t x in
-      let after : put (i + 1) t x (i + 2) ≡ x (i + 2) = put_off (i + 1) t x (i + 2) (λ e. omega arith) in
       ap (λ y. o y (o (v z) (c.ring.conjugate (v z))))
       (along_is strand z i m
-      ∙ (λ j. o (beside_same strand strand z x i m (λ g _ _. refl) (λ g off. put_off (i + 1) t x g off) j) (o (c.w (before j) (strand i) (here j)) (c.w (here j) (strand (i + 1)) (after j)))))
+      ∙ ap₂ o (beside_same strand strand z x i m (λ g _ _. refl) (λ g off. put_off (i + 1) t x g off)) (at_put (λ p t y. o (c.w p (strand i) t) (c.w t (strand (i + 1)) y)) i t x))
       ∙ laws.product_assoc _ _ _)
       ∙ sym (S.product-total laws c.count (beside strand x i m) _)
 
   module _ (proper : IsProper c) (equations : HasEquations c) (weighted : IsWeighted c) where
-    none_at : (strand : Key) (i : ℕ) (v : Key → E) → IsAt c strand i v → (x : Key) (t : ℕ) → goes_left c (x i) (strand i) (strand (i + 1)) (x (i + 2)) t ≡ false → v (put (i + 1) t x) ≡ c.ring.zero
-    none_at strand i v is x t off =
-        let before : put (i + 1) t x i ≡ x i = put_off (i + 1) t x i (λ e. omega arith) in
-        let here : put (i + 1) t x (i + 1) ≡ t = put_here (i + 1) t x in
-        let after : put (i + 1) t x (i + 2) ≡ x (i + 2) = put_off (i + 1) t x (i + 2) (λ e. omega arith) in
-        is.off (put (i + 1) t x) ((λ j. goes_left c (before j) (strand i) (strand (i + 1)) (after j) (here j)) ∙ off)
-
     -- An exchange at gap i + 1 keeps the weight.
     pub braid_keeps : (exchange : ℕ → ℕ → ℕ → E) → IsExchange c exchange → (n i : ℕ) (strand : Key) (v : Key → E) → i + 2 ≤ n → IsAt c strand i v
         → weight c n (swapped i strand) (braided c exchange strand i v) ≡ weight c n strand v
@@ -97,16 +82,12 @@ module _ {E : Type 0} (c : Symbols E) {K : Held E} (laws : RingLaws c.ring K) wh
         ∙ (at_one (swapped i strand) x i m (braided c exchange strand i v)
         ∙ ((λ j. o (beside_same (swapped i strand) strand x x i m (λ g a b. swapped_off i strand g a b) (λ g _. refl) j)
         (total c.ring c.count (λ t. o (o (c.w (x i) (swapped_first i strand j) t) (c.w t (swapped_second i strand j) (x (i + 2)))) (o (new x t j) (c.ring.conjugate (new x t j))))))
-        ∙ (ap (o (beside strand x i m)) (L.exchange_keeps c laws proper equations weighted exchange ex (x i) (strand i) (strand (i + 1)) (x (i + 2)) (λ t. v (put (i + 1) t x)) (λ t. is.members _) (none_at strand i v is x))
+        ∙ (ap (o (beside strand x i m)) (L.exchange_keeps c laws proper equations weighted exchange ex (x i) (strand i) (strand (i + 1)) (x (i + 2)) (λ t. v (put (i + 1) t x)) (λ t. is.members _) (none_put c strand i v is x))
         ∙ (sym (at_one strand x i m v)
         ∙ (λ j. at_gap c (i + 1) (λ x. o (along c strand x 0 (sym all j)) (o (v x) (c.ring.conjugate (v x)))) x)))))) (λ _. 0)
       where
         new : (x : Key) (t : ℕ) → braided c exchange strand i v (put (i + 1) t x) ≡ L.act c laws proper equations exchange (x i) (strand i) (strand (i + 1)) (x (i + 2)) (λ t. v (put (i + 1) t x)) t
-        new x t =
-            let before : put (i + 1) t x i ≡ x i = put_off (i + 1) t x i (λ e. omega arith) in
-            let here : put (i + 1) t x (i + 1) ≡ t = put_here (i + 1) t x in
-            let after : put (i + 1) t x (i + 2) ≡ x (i + 2) = put_off (i + 1) t x (i + 2) (λ e. omega arith) in
-            λ j. total c.ring c.count (λ r. o (braid_by c exchange (before j) (strand i) (strand (i + 1)) (after j) r (here j)) (v (put_again (i + 1) r t x j)))
+        new x t = across_put c (braid_by c exchange) strand x i t v
 
     -- The charges at gap i + 1 share the weight.
     pub charges_share : (n i : ℕ) (strand : Key) (v : Key → E) → i + 2 ≤ n → IsAt c strand i v
@@ -120,16 +101,12 @@ module _ {E : Type 0} (c : Symbols E) {K : Held E} (laws : RingLaws c.ring K) wh
         ∙ ((λ j. total c.ring c.count (λ q. at_gap c (i + 1) (λ x. o (along c strand x 0 (all j)) (o (projected c strand i q v x) (c.ring.conjugate (projected c strand i q v x)))) x))
         ∙ (S.total_same laws c.count _ _ (λ q _. at_one strand x i m (projected c strand i q v) ∙ ap (o (beside strand x i m)) (by_part q x))
         ∙ (sym (S.product-total laws c.count (beside strand x i m) _)
-        ∙ (ap (o (beside strand x i m)) (L.charges_share c laws proper equations weighted (x i) (strand i) (strand (i + 1)) (x (i + 2)) (λ t. v (put (i + 1) t x)) (λ t. is.members _) (none_at strand i v is x))
+        ∙ (ap (o (beside strand x i m)) (L.charges_share c laws proper equations weighted (x i) (strand i) (strand (i + 1)) (x (i + 2)) (λ t. v (put (i + 1) t x)) (λ t. is.members _) (none_put c strand i v is x))
         ∙ (sym (at_one strand x i m v)
         ∙ (λ j. at_gap c (i + 1) (λ x. o (along c strand x 0 (sym all j)) (o (v x) (c.ring.conjugate (v x)))) x))))))) (λ _. 0)
       where
         new : (q : ℕ) (x : Key) (t : ℕ) → projected c strand i q v (put (i + 1) t x) ≡ L.part c laws proper equations weighted q (x i) (strand i) (strand (i + 1)) (x (i + 2)) (λ t. v (put (i + 1) t x)) t
-        new q x t =
-            let before : put (i + 1) t x i ≡ x i = put_off (i + 1) t x i (λ e. omega arith) in
-            let here : put (i + 1) t x (i + 1) ≡ t = put_here (i + 1) t x in
-            let after : put (i + 1) t x (i + 2) ≡ x (i + 2) = put_off (i + 1) t x (i + 2) (λ e. omega arith) in
-            λ j. total c.ring c.count (λ r. o (o (c.f (before j) (strand i) (strand (i + 1)) (after j) r q) (c.h (before j) (strand i) (strand (i + 1)) (after j) q (here j))) (v (put_again (i + 1) r t x j)))
+        new q x t = across_put c (charge_kernel c q) strand x i t v
 
         by_part : (q : ℕ) (x : Key)
             → total c.ring c.count (λ t. o (o (c.w (x i) (strand i) t) (c.w t (strand (i + 1)) (x (i + 2)))) (o (projected c strand i q v (put (i + 1) t x)) (c.ring.conjugate (projected c strand i q v (put (i + 1) t x)))))

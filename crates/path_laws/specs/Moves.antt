@@ -43,8 +43,19 @@ abbrev pub opposite : Sign → Sign
 opposite Plus = Minus
 opposite Minus = Plus
 
+-- The braid of a sign at a gap, on the strands and the vector over them.
+abbrev pub braid_at : {E : Type 0} → Symbols E → Sign → ℕ → List ℕ × Vector E → List ℕ × Vector E
+braid_at c sign k = comb_acts c k (Exchange sign)
+
 -- Cancellation: a braid of either sign at any gap, and then its inverse there, change nothing.
 abbrev pub BraidsCancel : {E : Type 0} → Symbols E → Type 0
 BraidsCancel {E} c =
     (strands : List ℕ) (v : Vector E) (k : ℕ) (sign : Sign) → 0 < k → k < length strands → IsOver c strands v
-    → comb_acts c k (Exchange (opposite sign)) (comb_acts c k (Exchange sign) (strands, v)) ≡ (strands, v)
+    → braid_at c (opposite sign) k (braid_at c sign k (strands, v)) ≡ (strands, v)
+
+-- Yang-Baxter: three braids of one sign at neighbouring gaps may begin at either of both, on every vector.
+abbrev pub YangBaxter : {E : Type 0} → Symbols E → Type 0
+YangBaxter {E} c =
+    (strands : List ℕ) (v : Vector E) (k : ℕ) (sign : Sign) → 0 < k → k + 1 < length strands
+    → braid_at c sign k (braid_at c sign (k + 1) (braid_at c sign k (strands, v)))
+    ≡ braid_at c sign (k + 1) (braid_at c sign k (braid_at c sign (k + 1) (strands, v)))

@@ -1,6 +1,6 @@
 //! What the laws of a category say of braids and measurements on comb vectors.
 
-ghost use Rattle.path_laws.specs.Moves.{BraidsCancel, FarOperatorsCommute, OperatorsStayOver, StartsAreOver, StatesAreOver};
+ghost use Rattle.path_laws.specs.Moves.{BraidsCancel, FarOperatorsCommute, OperatorsStayOver, StartsAreOver, StatesAreOver, YangBaxter};
 ghost use Rattle.path_laws.specs.Weights.{BraidsKeepWeight, ChargesShareWeight};
 ghost use Rattle.symbol_table.specs.Category.{symbols};
 
@@ -40,6 +40,16 @@ pub fn cancellation<R: StarRing>(category: &Category<R>)
     ensures starts { StartsAreOver (symbols R.StarRing category.now) }
     ensures states { StatesAreOver (symbols R.StarRing category.now) }
     ensures operators { OperatorsStayOver (symbols R.StarRing category.now) }
+{
+    // What the symbols obey at all labels.
+    all_labels(category);
+}
+
+/// Three braids of one sign at neighbouring gaps may begin at either of both, on every vector, and leave the same strands.
+///
+/// It rests on the pentagon and on the hexagon of the sign.
+pub fn yang_baxter<R: StarRing>(category: &Category<R>)
+    ensures { YangBaxter (symbols R.StarRing category.now) }
 {
     // What the symbols obey at all labels.
     all_labels(category);
