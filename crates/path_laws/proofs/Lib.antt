@@ -8,3 +8,4 @@ pub mod PlaceLemmas
 pub mod PlaceWeights
 pub mod ThreeStrands
 pub mod YangBaxter
+mod Worked
