@@ -1,3 +1,6 @@
+pub mod EntryLemmas
+pub mod NodeLemmas
 pub mod ProjectLemmas
 pub mod SplitLemmas
+pub mod WeightLemmas
 mod Worked

@@ -18,11 +18,11 @@ use Rattle.tree_shapes.specs.Settling.{is_pair_at}
 use Rattle.tree_shapes.proofs.SettleLemmas.{node_there, node_filled}
 use Rattle.comb_laws.specs.Operators.{charge_kernel, projected, term_at}
 use Rattle.comb_laws.specs.Paths.{Path, goes_on, is_path}
-use Rattle.comb_laws.proofs.PathFacts.{and_true, goes_long}
+use Rattle.comb_laws.proofs.PathFacts.{and_true}
+use Rattle.path_laws.proofs.PlaceLemmas.{path_long}
 use Rattle.tree_laws.specs.Entries.{listed, values}
 use Rattle.tree_laws.specs.Laws.{pair}
 use Rattle.tree_laws.specs.Trees.{put, stands_for}
-use Rattle.tree_laws.proofs.EntryLemmas.{comb_is}
 use Rattle.tree_laws.proofs.Equations as Q
 use Rattle.tree_laws.proofs.Keys.{Key, put_here, put_off, same_key}
 use Rattle.tree_laws.proofs.Pairs.{split_is}
@@ -30,10 +30,11 @@ use Rattle.amp_store.specs.Amplitudes.{AreAmplitudes, amplitude_at}
 use Rattle.amp_store.proofs.CopyLemmas.{amplitudes_part}
 use Rattle.recouple.specs.Raises.{AreOver}
 use Rattle.recouple.specs.States.{State, IsStateOf, comb}
-use Rattle.recouple.proofs.CombLemmas.{over_keys, sums_are, value_is}
+use Rattle.recouple.proofs.CombLemmas.{value_is}
 use Rattle.recouple.proofs.RotationLemmas.{listed_get}
 use Rattle.recouple.proofs.ValueLemmas.{amplitude_member}
 use Rattle.charge_project.specs.Splits.{part_at}
+use Rattle.charge_project.proofs.EntryLemmas.{comb_stands}
 
 -- a node over two strands is a pair in its surroundings
 pub record IsPair (t : Outline) (k : ℕ) : Type 0 where
@@ -122,12 +123,6 @@ path_set c ss (x ∷ xs) (suc j) t is low high small before after =
     ((λ i. c.fuse (get_or (sym unit i ∷ xs) (sym back i) 0) (get_or ss (sym back i) 0) t) ∙ before)
     ((λ i. c.fuse t (get_or ss (sym up i) 0) (get_or (sym unit i ∷ xs) (sym up2 i) 0)) ∙ after))
 
-pub path_long : {E : Type 0} (c : Symbols E) (ss : List ℕ) (x : Path) → is_path c ss x ≡ true → length x ≡ length ss + 1
-path_long c ss [] is = absurd (cc)
-path_long c ss (x ∷ xs) is =
-    let one = and_true (x == 0) (goes_on c 0 ss xs) is in
-    omega (arith, goes_long c 0 ss xs one.1)
-
 -- a list with another label at a place, as a function of the place
 set_is : (xs : List ℕ) (k t : ℕ) → k < length xs → slice_index (set xs k t) ≡ put k t (slice_index xs)
 set_is xs k t below = same_key _ _ (λ g.
@@ -170,23 +165,15 @@ module _ {E : Type 0} (c : Symbols E) (laws : RingLaws c.ring c.held) (proper : 
       ∙ (value_by (slice_index L (k - 1) == q) (amplitude_at s.amps L) (amplitude_member laws c.count (length s.strands) s.amps is.over L)
       ∙ (λ j. o (mark c (label j == q)) (sym (value_is c.ring s.amps L) j))))
 
-  one_less : length s.strands ≡ (size s.shape - 1) + 1
-  one_less = omega (arith, is.leaves)
-
   abbrev old : (ℕ → ℕ) → E
   old = values c.ring (size s.shape - 1) s.amps
 
   -- what entries stand for on a path
   old_stands : (x : Path) → is_path c s.strands x ≡ true → comb c s x ≡ stands_for c s.shape st old (slice_index x)
-  old_stands x on =
-      rw on (sums_are c s.shape s.strands x s.amps
-      ∙ comb_is c laws s.shape st s.amps (slice_index x) (over_keys c.ring c.count (length s.strands) (size s.shape - 1) s.amps order.ordered is.over one_less))
+  old_stands x on = comb_stands c s is order laws x on
 
   new_stands : (x : Path) → is_path c s.strands x ≡ true → comb c (part_at k s q) x ≡ stands_for c s.shape st (values c.ring (size s.shape - 1) part) (slice_index x)
-  new_stands x on =
-      let ordered = amplitudes_part (λ (e : List ℕ × E). slice_index e.0 (k - 1) == q) c.held s.amps order in
-      rw on (sums_are c s.shape s.strands x part
-      ∙ comb_is c laws s.shape st part (slice_index x) (over_keys c.ring c.count (length s.strands) (size s.shape - 1) part ordered.ordered part_over one_less))
+  new_stands x on = comb_stands c (part_at k s q) part_of (amplitudes_part (λ (e : List ℕ × E). slice_index e.0 (k - 1) == q) c.held s.amps order) laws x on
 
   -- the coefficient is zero where the new label makes no path
   gone : (x : Path) (t : ℕ) → is_path c s.strands x ≡ true → nat_lt t c.count ≡ true → is_path c s.strands (slice_set x k t) ≡ false → (u : ℕ)
