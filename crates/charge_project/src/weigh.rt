@@ -127,9 +127,10 @@ fn add_key<R: StarRing>(
 }
 
 /// The weight of a state: the sum over its keys of the product of the weights w of the key's nodes times the amplitude
-/// and its conjugate. It is a number of the category's ring, and zero for a state without amplitudes.
+/// and its conjugate. It is the weight of the comb vector that the state stands for, a number of the category's ring.
 ///
-/// Answers [`Overflow`] exactly where a product, conjugate or sum of the evaluation doesn't fit. Takes no memory.
+/// It is evaluated over the keys in their order, the nodes of a key by gap, and begun at zero. Answers [`Overflow`]
+/// exactly where a product, conjugate or sum of that doesn't fit. Takes no memory.
 pub fn weight<R: StarRing>(
     category: &Category<R>,
     state: &TreeState<R>,
