@@ -4,7 +4,6 @@ use Rattle.std.specs.Prelude.{if◌then◌else◌, IsTrue}
 use Rattle.std.specs.Str.{bytes_eq}
 use Rattle.std.specs.List.{AllByRecursion}
 use Rattle.std.proofs.lemmas.List.Elements.{All-from_recursion, recursion_from_All}
-use Rattle.std.proofs.lemmas.Grind.{same_number_lists}
 use Rattle.ring_laws.specs.Ring.{RingLaws}
 use Rattle.ring_laws.specs.Stated.{◌>>=◌, conjugate_at, product_at, sum_at, steps}
 use Rattle.ring_laws.specs.Sums.{sum_over}
@@ -19,7 +18,7 @@ use Rattle.tree_laws.specs.Entries.{labels_of, listed, value_at, AreKeys, over_e
 use Rattle.tree_laws.specs.Trees.{top, stands_for}
 use Rattle.tree_laws.specs.Weights.{state_weight, tree_weight}
 use Rattle.tree_laws.specs.Weights as T
-use Rattle.tree_laws.proofs.EntryLemmas.{Upto, entries_are, length-listed, at_listed}
+use Rattle.tree_laws.proofs.EntryLemmas.{entries_are, listed_same}
 use Rattle.tree_laws.proofs.Factor.{Same, top_same}
 use Rattle.tree_laws.proofs.Keys.{Key, gaps_same}
 use Rattle.tree_laws.proofs.WeightLemmas.{weight_is}
@@ -192,12 +191,6 @@ module _ {E : Type 0} (c : Symbols E) (laws : RingLaws c.ring c.held) where
     unfolding term squared
     terms_are [] = refl
     terms_are (e ∷ es) = ap₂ c.ring.sum (laws.product_comm _ _) (terms_are es)
-
-    listed_same : (n : ℕ) (a b : Key) → Upto n a b → listed 1 n a ≡ listed 1 n b
-    listed_same n a b h =
-        same_number_lists _ _ (length-listed 1 n a ∙ sym (length-listed 1 n b))
-        (λ j l. let below : j < n = omega (arith, length-listed 1 n a) in
-        at_listed 1 n a j below ∙ (h (1 + j) (omega arith) (omega arith) ∙ sym (at_listed 1 n b j below)))
 
     module _ (is : IsStateOf c s) (order : AreAmplitudes c.held s.amps) where
       abbrev n : ℕ
