@@ -3,12 +3,12 @@ use Rattle.std.proofs.Common.{◌≡◌, ℕ, ◌+◌, ◌-◌, ◌<◌, ◌≤�
 use Rattle.std.specs.Prelude.{◌&&◌}
 use Rattle.ring_laws.proofs.StatedLemmas.{some_inj}
 use Rattle.symbol_table.specs.Symbols.{Symbols}
-use Rattle.tree_shapes.specs.Contexts.{Hole, OnLeft, OnRight, fill, place}
+use Rattle.tree_shapes.specs.Contexts.{Hole, OnLeft, OnRight, place}
 use Rattle.tree_shapes.specs.Labelled.{is_admissible}
 use Rattle.tree_shapes.specs.Outlines.{Outline, Tip, Branch, Standing, size, node_at, gap_of, left_gap, left_under, right_gap, right_under, with_labels}
 use Rattle.tree_shapes.proofs.ContextLemmas.{size_above, place_below}
 use Rattle.tree_shapes.proofs.ReaderLemmas.{node_here, node_in}
-use Rattle.tree_shapes.proofs.SettleLemmas.{node_there, node_filled}
+use Rattle.tree_shapes.proofs.SettleLemmas.{HasNode, node_there, node_filled}
 use Rattle.tree_shapes.proofs.TestLemmas.{three}
 use Rattle.tree_laws.specs.Entries.{labels_of}
 use Rattle.tree_laws.specs.Trees.{top}
@@ -21,24 +21,26 @@ child_in : (A : Outline) (i n : ℕ) → i + size A ≤ n + 1 → (g : ℕ) → 
 child_in Tip i n fits g is = absurd (cc)
 child_in (Branch l r) i n fits g is = subst (IsPlace n) (some_inj (i + size l) g is) (record { low = omega (arith, size_above l); high = omega (arith, size_above r) })
 
+-- the children of the node at a gap
+pub left_gap_is : (t : Outline) (k : ℕ) (n : HasNode t 0 k) → left_gap t k ≡ gap_of n.left (place n.around 0)
+left_gap_is t k n = ap (λ u. left_gap u k) n.is ∙ ap (λ (s : Standing). left_under s.tree s.start) (node_filled n.around n.left n.right k n.gap)
+
+pub right_gap_is : (t : Outline) (k : ℕ) (n : HasNode t 0 k) → right_gap t k ≡ gap_of n.right (place n.around 0 + size n.left)
+right_gap_is t k n = ap (λ u. right_gap u k) n.is ∙ ap (λ (s : Standing). right_under s.tree s.start) (node_filled n.around n.left n.right k n.gap)
+
+node_fits : (t : Outline) (k : ℕ) (n : HasNode t 0 k) → place n.around 0 + (size n.left + size n.right) ≤ size t
+node_fits t k n = omega (arith, place_below n.around (Branch n.left n.right) 0, ap size n.is)
+
 module _ (t : Outline) (k : ℕ) (low : 0 < k) (high : k < size t) where
   pub left_in : (g : ℕ) → left_gap t k ≡ Some g → IsPlace (size t - 1) g
   left_in g there =
       let n = node_there t 0 k low (omega arith) in
-      let is : left_gap t k ≡ gap_of n.left (place n.around 0) =
-      ap (λ u. left_gap u k) n.is ∙ ap (λ (s : Standing). left_under s.tree s.start) (node_filled n.around n.left n.right k n.gap) in
-      let fits : place n.around 0 + size (Branch n.left n.right) ≤ 0 + size (fill n.around (Branch n.left n.right)) = place_below n.around (Branch n.left n.right) 0 in
-      let whole : size t ≡ size (fill n.around (Branch n.left n.right)) = ap size n.is in
-      child_in n.left (place n.around 0) (size t - 1) (omega arith) g (sym is ∙ there)
+      child_in n.left (place n.around 0) (size t - 1) (omega (arith, node_fits t k n)) g (sym (left_gap_is t k n) ∙ there)
 
   pub right_in : (g : ℕ) → right_gap t k ≡ Some g → IsPlace (size t - 1) g
   right_in g there =
       let n = node_there t 0 k low (omega arith) in
-      let is : right_gap t k ≡ gap_of n.right (place n.around 0 + size n.left) =
-      ap (λ u. right_gap u k) n.is ∙ ap (λ (s : Standing). right_under s.tree s.start) (node_filled n.around n.left n.right k n.gap) in
-      let fits : place n.around 0 + size (Branch n.left n.right) ≤ 0 + size (fill n.around (Branch n.left n.right)) = place_below n.around (Branch n.left n.right) 0 in
-      let whole : size t ≡ size (fill n.around (Branch n.left n.right)) = ap size n.is in
-      child_in n.right (place n.around 0 + size n.left) (size t - 1) (omega arith) g (sym is ∙ there)
+      child_in n.right (place n.around 0 + size n.left) (size t - 1) (omega (arith, node_fits t k n)) g (sym (right_gap_is t k n) ∙ there)
 
 -- a node beside the top is in one of the two children
 module _ (l r : Outline) (i k : ℕ) where

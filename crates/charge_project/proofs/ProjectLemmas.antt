@@ -13,9 +13,9 @@ use Rattle.ring_laws.proofs.SumLemmas as S
 use Rattle.symbol_table.specs.AllLabels.{IsProper, HasEquations, mark}
 use Rattle.symbol_table.specs.Symbols.{Symbols}
 use Rattle.tree_shapes.specs.Contexts.{Around, fill, place}
-use Rattle.tree_shapes.specs.Outlines.{Outline, Tip, Branch, Standing, size, gap_of, left_gap, left_under, right_gap, right_under}
+use Rattle.tree_shapes.specs.Outlines.{Outline, Tip, Branch, size, gap_of}
 use Rattle.tree_shapes.specs.Settling.{is_pair_at}
-use Rattle.tree_shapes.proofs.SettleLemmas.{node_there, node_filled}
+use Rattle.tree_shapes.proofs.SettleLemmas.{node_there}
 use Rattle.comb_laws.specs.Operators.{charge_kernel, projected, term_at}
 use Rattle.comb_laws.specs.Paths.{Path, goes_on, is_path}
 use Rattle.comb_laws.proofs.PathFacts.{and_true}
@@ -35,6 +35,7 @@ use Rattle.recouple.proofs.RotationLemmas.{listed_get}
 use Rattle.recouple.proofs.ValueLemmas.{amplitude_member}
 use Rattle.charge_project.specs.Splits.{part_at}
 use Rattle.charge_project.proofs.EntryLemmas.{comb_stands}
+use Rattle.charge_project.proofs.NodeLemmas.{left_gap_is, right_gap_is}
 
 -- a node over two strands is a pair in its surroundings
 pub record IsPair (t : Outline) (k : ℕ) : Type 0 where
@@ -50,10 +51,7 @@ pair_by a (Branch l l') r t k is gap h = absurd (cc)
 pub pair_there : (t : Outline) (k : ℕ) → 0 < k → k < size t → is_pair_at t k ≡ true → IsPair t k
 pair_there t k low high h =
     let n = node_there t 0 k low (omega arith) in
-    let filled = node_filled n.around n.left n.right k n.gap in
-    let first : left_gap t k ≡ gap_of n.left (place n.around 0) = ap (λ u. left_gap u k) n.is ∙ ap (λ (s : Standing). left_under s.tree s.start) filled in
-    let second : right_gap t k ≡ gap_of n.right (place n.around 0 + size n.left) = ap (λ u. right_gap u k) n.is ∙ ap (λ (s : Standing). right_under s.tree s.start) filled in
-    pair_by n.around n.left n.right t k n.is n.gap ((λ j. is_none (sym first j) && is_none (sym second j)) ∙ h)
+    pair_by n.around n.left n.right t k n.is n.gap ((λ j. is_none (sym (left_gap_is t k n) j) && is_none (sym (right_gap_is t k n) j)) ∙ h)
 
 -- an amplitude of a part
 pub part_amplitude : {E : Type 0} (es : List (List ℕ × E)) (g q : ℕ) (key : List ℕ) → amplitude_at (filter (λ e. slice_index e.0 g == q) es) key ≡ (if slice_index key g == q then amplitude_at es key else None)
