@@ -9,26 +9,8 @@ use Rattle.symbol_table.specs.Symbols.{Symbols}
 use Rattle.comb_laws.specs.Operators.{exchange_by, swapped}
 use Rattle.recouple.proofs.PairLemmas.{pair_fuses, pair_there}
 use Rattle.braid_act.specs.Exchanges.{exchange_at, ExchangesBack, opposite}
-use Rattle.braid_act.proofs.MapLemmas.{entry_is}
-use Rattle.braid_act.proofs.StateLemmas.{swapped_first, swapped_long, swapped_off, swapped_second, times}
+use Rattle.braid_act.proofs.StateLemmas.{times}
 use Rattle.braid_act.proofs.SymbolLemmas.{undone}
-
--- two strands swapped twice
-swapped_back : (strands : List ℕ) (k : ℕ) → 0 < k → k < length strands → swapped (swapped strands k) k ≡ strands
-swapped_back strands k low high =
-    let long = swapped_long strands k in
-    same_number_lists _ _ (swapped_long (swapped strands k) k ∙ swapped_long strands k) (λ j _.
-    elim (eqb_tells j (k - 1)) [
-      | inl first ↦
-          ap (λ i. get_or (swapped (swapped strands k) k) i 0) first.1
-          ∙ (swapped_first (swapped strands k) k low (omega (arith, long)) ∙ (swapped_second strands k high ∙ ap (λ i. get_or strands i 0) (sym first.1)))
-      | inr off ↦ elim (eqb_tells j k) [
-        | inl second ↦
-            ap (λ i. get_or (swapped (swapped strands k) k) i 0) second.1
-            ∙ (swapped_second (swapped strands k) k (omega (arith, long)) ∙ (swapped_first strands k low high ∙ ap (λ i. get_or strands i 0) (sym second.1)))
-        | inr other ↦ swapped_off (swapped strands k) k j off.1 other.1 ∙ swapped_off strands k j off.1 other.1
-      ]
-    ])
 
 -- numbers that come back
 map_back : {E : Type 0} (x y : List ℕ → E) (o : E → E → E) (es : List (List ℕ × E)) → ((i : ℕ) (e : List ℕ × E) → slice_get es i ≡ Some e → o (y e.0) (o (x e.0) e.1) ≡ e.1)
@@ -47,7 +29,14 @@ module _ {E : Type 0} (c : Symbols E) (laws : RingLaws c.ring c.held) (proper : 
   exchanges_back s k sign is order low high pair =
       let at = pair_there s.shape k low high pair in
       let short : k < length s.strands = omega (arith, is.leaves) in
-      let up : (k + 1) - 1 ≡ k = omega arith in
+      let i = k - 1 in
+      let gap : k ≡ (k - 1) + 1 = omega (arith, low) in
+      let up : (k + 1) - 1 ≡ (k - 1) + 1 = omega (arith, low) in
+      let place = swapped_is s.strands (k - 1) k gap short in
+      let first : slice_index (swapped s.strands k) (k - 1) ≡ slice_index s.strands k = ap (λ (f : ℕ → ℕ). f (k - 1)) place ∙ (swapped_first (k - 1) (slice_index s.strands) ∙ ap (slice_index s.strands) (sym gap)) in
+      let second : slice_index (swapped s.strands k) ((k + 1) - 1) ≡ slice_index s.strands (k - 1) =
+      ap (slice_index (swapped s.strands k)) up ∙ (ap (λ (f : ℕ → ℕ). f ((k - 1) + 1)) place ∙ swapped_second (k - 1) (slice_index s.strands)) in
+      let back : (k + 1) - 1 ≡ k = omega arith in
       let x = exchange_at c sign s.strands k in
       let y = exchange_at c (opposite sign) (swapped s.strands k) k in
       λ j. record {
@@ -55,10 +44,10 @@ module _ {E : Type 0} (c : Symbols E) (laws : RingLaws c.ring c.held) (proper : 
         shape = s.shape;
         amps =
             map_back x y o s.amps (λ i e h.
-            let there = entry_is s.amps i e order.ordered h in
+            let there = entry_is c s is order i e h in
             let q = slice_index e.0 (k - 1) in
             let fuses = pair_fuses c s.strands e.0 s.shape k at (is.admissible e.0 e.1 there) in
-            (λ l. o (exchange_by c (opposite sign) (swapped_first s.strands k low short l) ((ap (slice_index (swapped s.strands k)) up ∙ swapped_second s.strands k short) l) q)
-            (o (exchange_by c sign (slice_index s.strands (k - 1)) (slice_index s.strands (up l)) q) e.1))
+            (λ l. o (exchange_by c (opposite sign) (first l) (second l) q)
+            (o (exchange_by c sign (slice_index s.strands (k - 1)) (slice_index s.strands (back l)) q) e.1))
             ∙ one_back _ _ e.1 (undone c laws proper weighted sign (slice_index s.strands (k - 1)) (slice_index s.strands k) q fuses) (is.over.members e.0 e.1 there)) j;
       }

@@ -14,21 +14,23 @@ use Rattle.program_text.specs.declared.plan.Sign.TheVariants.{Plus, Minus}
 use Rattle.tree_shapes.specs.Contexts.{place}
 use Rattle.tree_shapes.specs.Outlines.{size}
 use Rattle.tree_laws.specs.Entries.{listed, values}
-use Rattle.tree_laws.specs.Operators.{braid_by}
-use Rattle.tree_laws.specs.Trees.{put, stands_for}
+use Rattle.tree_laws.specs.Operators as T
+use Rattle.tree_laws.specs.Trees.{stands_for}
 use Rattle.tree_laws.proofs.Equations as Q
 use Rattle.tree_laws.proofs.Keys.{Key}
 use Rattle.tree_laws.proofs.Pairs.{exchanged_is}
 use Rattle.amp_store.specs.Amplitudes.{AreAmplitudes, amplitude_at}
-use Rattle.comb_laws.specs.Operators.{braid_kernel, braided, exchange_by, swapped, term_at}
+use Rattle.comb_laws.specs.Operators.{braid_kernel, braided, exchange_by, swapped}
+use Rattle.comb_laws.specs.declared.operator.Operator.TheVariants.{Exchange}
 use Rattle.comb_laws.specs.Paths.{Path, is_path}
+use Rattle.path_laws.proofs.ActLemmas.{acted_by_place, after_is, kernel_off, swapped_is}
 use Rattle.recouple.specs.States.{State, IsStateOf, comb}
 use Rattle.recouple.proofs.CombLemmas.{value_is}
-use Rattle.recouple.proofs.PairLemmas.{IsPair, stands_at}
-use Rattle.recouple.proofs.PathPlaces.{ByPlace, path_set, path_tells, set_is}
+use Rattle.recouple.proofs.EntryLemmas.{comb_stands}
+use Rattle.recouple.proofs.PairLemmas.{IsPair}
 use Rattle.recouple.proofs.RotationLemmas.{listed_get}
 use Rattle.braid_act.specs.Exchanges.{exchange_at, exchanged}
-use Rattle.braid_act.proofs.StateLemmas.{amplitude_times, of_after, swapped_is, swapped_long, swapped_off}
+use Rattle.braid_act.proofs.StateLemmas.{amplitude_times, of_after}
 
 -- exchanges of either sign are zero where the labels don't fuse
 exchange_off : {E : Type 0} (c : Symbols E) → IsProper c → (sign : Sign) (a b q : ℕ) → c.fuse a b q ≡ false → exchange_by c sign a b q ≡ c.ring.zero
@@ -77,64 +79,22 @@ module _ {E : Type 0} (c : Symbols E) (laws : RingLaws c.ring c.held) (proper : 
       ∙ (times_zero (exchange_at c sign s.strands k L) (amplitude_at s.amps L)
       ∙ (λ j. o (ex (st (back j)) (st ((first_is ∙ at.gap) j)) ((label ∙ ap key at.gap) j)) (sym (value_is c.ring s.amps L) j))))
 
-  -- a kernel is zero where the old label makes no path
-  gone : (x : Path) (t : ℕ) → is_path c (swapped s.strands k) x ≡ true → nat_lt t c.count ≡ true → is_path c s.strands (slice_set x k t) ≡ false
-      → braid_kernel c sign (slice_index x (k - 1)) (slice_index s.strands (k - 1)) (slice_index s.strands k) (slice_index x (k + 1)) t (slice_index x k) ≡ c.ring.zero
-  gone x t on small off =
-      S.total_none laws c.count _ (λ q _.
-      Q.left_none c laws proper _ _ (Q.left_none c laws proper _ _ (no_f q)))
-    where
-      no_f : (q : ℕ) → c.f (slice_index x (k - 1)) (slice_index s.strands (k - 1)) (slice_index s.strands k) (slice_index x (k + 1)) t q ≡ c.ring.zero
-      no_f q =
-          let p = slice_index x (k - 1) in
-          let a = slice_index s.strands (k - 1) in
-          let b = slice_index s.strands k in
-          let y = slice_index x (k + 1) in
-          elim (S.true_or_false (c.fuse p a t)) [
-            | inr no' ↦ Q.f_gone c laws proper p a b y t q _ no' (λ h. h.abe)
-            | inl first ↦ elim (S.true_or_false (c.fuse t b y)) [
-              | inr no' ↦ Q.f_gone c laws proper p a b y t q _ no' (λ h. h.emd)
-              | inl both ↦
-                  let there = path_set c s.strands (swapped s.strands k) x k t (swapped_long s.strands k) (swapped_off s.strands k) on low short small first both in
-                  let clash : true ≡ false = sym there ∙ off in
-                  absurd (cc)
-            ]
-          ]
-
-  -- one term of the braid
-  term_is : (x : Path) (t : ℕ) → is_path c (swapped s.strands k) x ≡ true → nat_lt t c.count ≡ true
-      → o (braid_kernel c sign (slice_index x (k - 1)) (slice_index s.strands (k - 1)) (slice_index s.strands k) (slice_index x (k + 1)) t (slice_index x k)) (stands_for c s.shape st old (put k t (slice_index x)))
-      ≡ o (braid_kernel c sign (slice_index x (k - 1)) (slice_index s.strands (k - 1)) (slice_index s.strands k) (slice_index x (k + 1)) t (slice_index x k)) (comb c s (slice_set x k t))
-  term_is x t on small =
-      let long = ByPlace.long (path_tells c (swapped s.strands k) x on) in
-      let kernel = braid_kernel c sign (slice_index x (k - 1)) (slice_index s.strands (k - 1)) (slice_index s.strands k) (slice_index x (k + 1)) t (slice_index x k) in
-      elim (S.true_or_false (is_path c s.strands (slice_set x k t))) [
-        | inl there ↦
-            ap (o kernel) (sym (stands_at c laws s is order (slice_set x k t) there ∙ ap (stands_for c s.shape st old) (set_is x k t (omega (arith, long, swapped_long s.strands k, short)))))
-        | inr off ↦
-            Q.left_none c laws proper _ _ (gone x t on small off) ∙ sym (Q.left_none c laws proper _ _ (gone x t on small off))
-      ]
-
-  braid_at : (x : Path) → is_path c (swapped s.strands k) x ≡ true → comb c (exchanged c sign k s) x ≡ total c.ring c.count (term_at c s.strands k (braid_kernel c sign) (comb c s) x)
+  -- on paths an exchange stands for the braid by place, which the comb braid is
+  braid_at : (x : Path) → is_path c (swapped s.strands k) x ≡ true → comb c (exchanged c sign k s) x ≡ braided c s.strands sign k (comb c s) x
   braid_at x on =
       let X = slice_index x in
-      let e2 : place at.around 0 + 1 ≡ k = sym at.gap in
-      let e3 : place at.around 0 + 2 ≡ k + 1 = omega (arith, at.gap) in
-      stands_at c laws (exchanged c sign k s) (of_after c laws proper sign s is k low high at) order' x on
-      ∙ ((λ j. stands_for c s.shape (swapped_is s.strands k i at.gap short j) (λ key. new_values key j) X)
-      ∙ ((λ j. stands_for c (at.is j) (λ g. put i (st (i + 1)) (put (i + 1) (st i) st) g) (λ key. o (ex (st i) (st (i + 1)) (key (i + 1))) (old key)) X)
+      comb_stands c (exchanged c sign k s) (of_after c laws proper sign s is k low high at) order' laws x on
+      ∙ ((λ j. stands_for c s.shape (swapped_is s.strands i k at.gap short j) (λ key. new_values key j) X)
+      ∙ ((λ j. stands_for c (at.is j) (T.swapped i st) (λ key. o (ex (st i) (st (i + 1)) (key (i + 1))) (old key)) X)
       ∙ (exchanged_is c laws proper equations ex (exchange_off c proper sign) at.around st X old
-      ∙ ((λ j. total c.ring c.count (λ t. o (braid_by c ex (X (sym back j)) (st (sym back j)) (st (e2 j)) (X (e3 j)) t (X (e2 j))) (stands_for c (sym at.is j) st old (put (e2 j) t X))))
-      ∙ (S.total_same laws c.count _ _ (λ t small. term_is x t on (below t c.count small))
-      ∙ (λ j. total c.ring c.count (λ t. o (braid_kernel c sign (X (k - 1)) (st (k - 1)) (st (sym first_is j)) (X (k + 1)) t (X k)) (comb c s (slice_set x k t)))))))))
-    where
-      below : (t n : ℕ) → t < n → nat_lt t n ≡ true
-      below t n h = grind (arith, nat_tests)
+      ∙ ((λ j. T.braided c ex st i (stands_for c (sym at.is j) st old) X)
+      ∙ sym (acted_by_place c laws proper (braid_kernel c sign) (kernel_off c laws proper (Exchange sign)) s.strands (swapped s.strands k) i k at.gap short (after_is (Exchange sign) s.strands i k at.gap short) (comb c s) (stands_for c s.shape st old)
+      (λ y there. comb_stands c s is order laws y there) x on)))))
 
   -- an exchange stands for the comb braid
   pub braid_is : comb c (exchanged c sign k s) ≡ braided c s.strands sign k (comb c s)
   braid_is = fun_ext (λ x. pick x (is_path c (swapped s.strands k) x) refl)
     where
       pick : (x : Path) (b : Bool) → is_path c (swapped s.strands k) x ≡ b → comb c (exchanged c sign k s) x ≡ braided c s.strands sign k (comb c s) x
-      pick x true on = braid_at x on ∙ rw on refl
+      pick x true on = braid_at x on
       pick x false off = rw off refl

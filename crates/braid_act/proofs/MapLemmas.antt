@@ -30,20 +30,6 @@ key_at P [] i e all h = absurd (cc)
 key_at P (x ∷ xs) zero e all h = subst (λ (d : List ℕ × _). P d.0) (some_inj x e h) all.0
 key_at P (x ∷ xs) (suc i) e all h = key_at P xs i e all.1 h
 
--- the number of the key at a place
-pub entry_is : {E : Type 0} (es : List (List ℕ × E)) (i : ℕ) (e : List ℕ × E) → IsStrictlySortedBy key_cmp (keys_of es) → slice_get es i ≡ Some e → amplitude_at es e.0 ≡ Some e.1
-unfolding IsStrictlySortedBy
-entry_is [] i e s h = absurd (cc)
-entry_is (x ∷ xs) zero e s h =
-    let same : x ≡ e = some_inj x e h in
-    ap (λ b. if b then Some x.1 else amplitude_at xs e.0) ((bytes_eq-Decides e.0 x.0).1 (ap (λ (d : List ℕ × _). d.0) (sym same))) ∙ ap (λ (d : List ℕ × _). Some d.1) same
-entry_is (x ∷ xs) (suc i) e s h =
-    let less = key_at (λ b. key_cmp x.0 b ≡ Less) xs i e s.0 h in
-    elim (S.true_or_false (bytes_eq e.0 x.0)) [
-      | inl is ↦ let clash : Less ≡ Equal = sym less ∙ same_keys x.0 e.0 (sym ((bytes_eq-Decides e.0 x.0).0 is)) in absurd (cc)
-      | inr isnt ↦ ap (λ b. if b then Some x.1 else amplitude_at xs e.0) isnt ∙ entry_is xs i e s.1 h
-    ]
-
 module _ {E : Type 0} (g : List ℕ × E → E) where
   abbrev pub with_number : List ℕ × E → List ℕ × E
   with_number e = (e.0, g e)

@@ -23,53 +23,15 @@ use Rattle.tree_laws.proofs.Keys.{put_here, put_off, same_key}
 use Rattle.amp_store.specs.Amplitudes.{AreAmplitudes, amplitude_at}
 use Rattle.amp_store.proofs.EditLemmas.{nonzero_in}
 use Rattle.comb_laws.specs.Operators.{swapped}
+use Rattle.comb_laws.specs.declared.operator.Operator.TheVariants.{Exchange}
+use Rattle.path_laws.proofs.Across.{swapped_first, swapped_second}
+use Rattle.path_laws.proofs.ActLemmas.{After, after_is, length-swapped, swapped_is}
 use Rattle.recouple.specs.Raises.{AreOver}
 use Rattle.recouple.specs.States.{State, IsStateOf}
 use Rattle.recouple.proofs.AdmissibleLemmas.{adm_in, adm_is, and_true}
+use Rattle.recouple.proofs.EntryLemmas.{entry_is}
 use Rattle.recouple.proofs.PairLemmas.{IsPair, pair_fuses}
 use Rattle.braid_act.specs.Exchanges.{HasEntry, exchange_at, exchanged}
-use Rattle.braid_act.proofs.MapLemmas.{entry_is}
-
--- the swapped strands by place
-pub swapped_off : (strands : List ℕ) (k j : ℕ) → (j ≡ k - 1 → ⊥) → (j ≡ k → ⊥) → get_or (swapped strands k) j 0 ≡ get_or strands j 0
-swapped_off strands k j first second =
-    get_or-set_other (set strands (k - 1) (get_or strands ((k + 1) - 1) 0)) k j (get_or strands (k - 1) 0) 0 second ∙ get_or-set_other strands (k - 1) j (get_or strands ((k + 1) - 1) 0) 0 first
-
-pub swapped_first : (strands : List ℕ) (k : ℕ) → 0 < k → k < length strands → get_or (swapped strands k) (k - 1) 0 ≡ get_or strands k 0
-swapped_first strands k low high =
-    let e : (k + 1) - 1 ≡ k = omega arith in
-    get_or-set_other (set strands (k - 1) (get_or strands ((k + 1) - 1) 0)) k (k - 1) (get_or strands (k - 1) 0) 0 (λ f. omega (arith, f))
-    ∙ (get_or-set_same strands (k - 1) (get_or strands ((k + 1) - 1) 0) 0 (omega arith) ∙ ap (λ i. get_or strands i 0) e)
-
-pub swapped_second : (strands : List ℕ) (k : ℕ) → k < length strands → get_or (swapped strands k) k 0 ≡ get_or strands (k - 1) 0
-swapped_second strands k high =
-    let long : length (set strands (k - 1) (get_or strands ((k + 1) - 1) 0)) ≡ length strands = length-set strands (k - 1) (get_or strands ((k + 1) - 1) 0) in
-    get_or-set_same (set strands (k - 1) (get_or strands ((k + 1) - 1) 0)) k (get_or strands (k - 1) 0) 0 (omega (arith, long))
-
-pub swapped_long : (strands : List ℕ) (k : ℕ) → length (swapped strands k) ≡ length strands
-swapped_long strands k = length-set (set strands (k - 1) (get_or strands ((k + 1) - 1) 0)) k (get_or strands (k - 1) 0) ∙ length-set strands (k - 1) (get_or strands ((k + 1) - 1) 0)
-
-pub swapped_is : (strands : List ℕ) (k i : ℕ) → k ≡ i + 1 → k < length strands → slice_index (swapped strands k) ≡ T.swapped i (slice_index strands)
-swapped_is strands k i e high = same_key _ _ (λ g.
-    let back : k - 1 ≡ i = omega (arith, e) in
-    elim (eqb_tells g i) [
-      | inl here ↦
-          let first : g ≡ k - 1 = omega (arith, e, here.1) in
-          ap (λ j. get_or (swapped strands k) j 0) first
-          ∙ (swapped_first strands k (omega (arith, e)) high
-          ∙ (ap (λ j. get_or strands j 0) e ∙ sym (ap (T.swapped i (slice_index strands)) here.1 ∙ put_here i (slice_index strands (i + 1)) (put (i + 1) (slice_index strands i) (slice_index strands)))))
-      | inr off ↦ elim (eqb_tells g (i + 1)) [
-        | inl here ↦
-            let second : g ≡ k = omega (arith, e, here.1) in
-            ap (λ j. get_or (swapped strands k) j 0) second
-            ∙ (swapped_second strands k high
-            ∙ (ap (λ j. get_or strands j 0) back
-            ∙ sym (put_off i (slice_index strands (i + 1)) (put (i + 1) (slice_index strands i) (slice_index strands)) g off.1 ∙ (ap (put (i + 1) (slice_index strands i) (slice_index strands)) here.1 ∙ put_here (i + 1) (slice_index strands i) (slice_index strands)))))
-        | inr other ↦
-            swapped_off strands k g (λ f. off.1 (f ∙ back)) (λ f. other.1 (f ∙ e))
-            ∙ sym (put_off i (slice_index strands (i + 1)) (put (i + 1) (slice_index strands i) (slice_index strands)) g off.1 ∙ put_off (i + 1) (slice_index strands i) (slice_index strands) g other.1)
-      ]
-    ])
 
 -- an amplitude of mapped entries
 module _ {E : Type 0} (x : List ℕ → E) (o : E → E → E) where
@@ -110,17 +72,18 @@ module _ {E : Type 0} (c : Symbols E) (laws : RingLaws c.ring c.held) (proper : 
       let old = slice_index s.strands in
       let new = slice_index (swapped s.strands k) in
       let x = labels_of key in
-      let back : k - 1 ≡ place at.around 0 = omega (arith, at.gap) in
+      let place_is = swapped_is s.strands (place at.around 0) k at.gap short in
       let first : slice_index (swapped s.strands k) (place at.around 0) ≡ slice_index s.strands (place at.around 0 + 1) =
-      ap (slice_index (swapped s.strands k)) (sym back) ∙ (swapped_first s.strands k low short ∙ ap (slice_index s.strands) at.gap) in
+      ap (λ (f : ℕ → ℕ). f (place at.around 0)) place_is ∙ swapped_first (place at.around 0) (slice_index s.strands) in
       let second : slice_index (swapped s.strands k) (place at.around 0 + 1) ≡ slice_index s.strands (place at.around 0) =
-      ap (slice_index (swapped s.strands k)) (sym at.gap) ∙ (swapped_second s.strands k short ∙ ap (slice_index s.strands) back) in
+      ap (λ (f : ℕ → ℕ). f (place at.around 0 + 1)) place_is ∙ swapped_second (place at.around 0) (slice_index s.strands) in
+      let others = After.others (after_is (Exchange sign) s.strands (place at.around 0) k at.gap short) in
       ap (λ t. is_admissible c.fuse (with_labels t (swapped s.strands k) key)) at.is
       ∙ (adm_is c new (fill a pair) x 0
       ∙ adm_in c old new pair pair x x refl a 0
       (record {
-        strands_below = λ g below. sym (swapped_off s.strands k g (λ e. omega (arith, e, at.gap)) (λ e. omega (arith, e, at.gap)));
-        strands_above = λ g above. sym (swapped_off s.strands k g (λ e. omega (arith, e, at.gap)) (λ e. omega (arith, e, at.gap)));
+        strands_below = λ g below. sym (others g (λ e. omega (arith, e)) (λ e. omega (arith, e)));
+        strands_above = λ g above. sym (others g (λ e. omega (arith, e)) (λ e. omega (arith, e)));
         below = λ g _ _. refl;
         above = λ g _. refl;
       })
@@ -137,7 +100,7 @@ module _ {E : Type 0} (c : Symbols E) (laws : RingLaws c.ring c.held) (proper : 
   new_over : AreOver c.ring c.count (length (swapped s.strands k)) after.amps
   new_over = record {
     members = λ key v h. let w = from key v h in subst (λ (z : E). IsTrue (c.ring.member z)) (sym w.2) (laws.product_is _ _);
-    keys = λ key v h. let w = from key v h in let old = is.over.keys key w.0 w.1 in record { long = swapped_long s.strands k ∙ old.long; labels = old.labels };
+    keys = λ key v h. let w = from key v h in let old = is.over.keys key w.0 w.1 in record { long = length-swapped s.strands k ∙ old.long; labels = old.labels };
   }
 
   label_below : (i : ℕ) → i < length s.strands → slice_index s.strands i < c.count
@@ -145,7 +108,7 @@ module _ {E : Type 0} (c : Symbols E) (laws : RingLaws c.ring c.held) (proper : 
 
   pub of_after : IsStateOf c (exchanged c sign k s)
   of_after = record {
-    leaves = is.leaves ∙ sym (swapped_long s.strands k);
+    leaves = is.leaves ∙ sym (length-swapped s.strands k);
     labels =
         All-set (λ l. l < c.count) (set s.strands (k - 1) (get_or s.strands ((k + 1) - 1) 0)) k (get_or s.strands (k - 1) 0) (label_below (k - 1) (omega (arith, short)))
         (All-set (λ l. l < c.count) s.strands (k - 1) (get_or s.strands ((k + 1) - 1) 0) (label_below ((k + 1) - 1) (omega (arith, short))) is.labels);
@@ -164,7 +127,7 @@ module _ {E : Type 0} (c : Symbols E) (laws : RingLaws c.ring c.held) (proper : 
 pub has_entry : {E : Type 0} (c : Symbols E) (s : State E) → IsStateOf c s → AreAmplitudes c.held s.amps → (k : ℕ) → 0 < k → k < size s.shape → IsPair s.shape k
     → (i : ℕ) (e : List ℕ × E) → slice_get s.amps i ≡ Some e → HasEntry c s k e
 has_entry c s is order k low high at i e h =
-    let there = entry_is s.amps i e order.ordered h in
+    let there = entry_is c s is order i e h in
     record {
       long = omega (arith, (is.over.keys e.0 e.1 there).long, is.leaves);
       fuses = pair_fuses c s.strands e.0 s.shape k at (is.admissible e.0 e.1 there);

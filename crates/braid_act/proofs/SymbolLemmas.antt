@@ -8,35 +8,17 @@ use Rattle.symbol_table.specs.Symbols.{Symbols}
 use Rattle.program_text.specs.declared.plan.Sign.{Sign}
 use Rattle.program_text.specs.declared.plan.Sign.TheVariants.{Plus, Minus}
 use Rattle.comb_laws.specs.Operators.{exchange_by}
-use Rattle.braid_act.specs.Exchanges.{opposite}
+use Rattle.path_laws.specs.Moves.{opposite}
+use Rattle.path_laws.proofs.OneLabel.{r_undoes_s, s_undoes_r}
 
 module _ {E : Type 0} (c : Symbols E) (laws : RingLaws c.ring c.held) (proper : IsProper c) (weighted : IsWeighted c) where
   abbrev o : E → E → E
   o = c.ring.product
 
-  -- w(b,a,e) S(b,a,e) is w(a,b,e) conj(R(a,b,e)), whose product with R(a,b,e) is w(a,b,e), which has an inverse
-  inverse : (a b e : ℕ) → c.fuse a b e ≡ true → o (c.s b a e) (c.r a b e) ≡ c.ring.one
-  inverse a b e is =
-      let x = o (c.s b a e) (c.r a b e) in
-      let w = c.w a b e in
-      let v = c.v a b e in
-      let whole : o (o (c.s b a e) (c.r a b e)) (c.w a b e) ≡ c.w a b e =
-      turn (c.s b a e) (c.r a b e) (c.w a b e)
-      ∙ (ap (o (c.r a b e)) (weighted.adjoint_r b a e)
-      ∙ (gather (c.r a b e) (c.w b a e) (c.ring.conjugate (c.r a b e)) ∙ weighted.norm_r a b e)) in
-      sym (laws.product-one x (laws.product_is _ _))
-      ∙ (ap (o x) (sym (weighted.inverse a b e is)) ∙ (sym (laws.product_assoc x w v) ∙ (ap (λ y. o y v) whole ∙ weighted.inverse a b e is)))
-    where
-      turn : (s r w : E) → o (o s r) w ≡ o r (o w s)
-      turn s r w = simp (laws.product_assoc, laws.product_comm, S.product_left laws)
-
-      gather : (r w t : E) → o r (o w t) ≡ o (o r t) w
-      gather r w t = simp (laws.product_assoc, laws.product_comm, S.product_left laws)
-
   -- an exchange of either sign and then the other
   pub undone : (sign : Sign) (a b e : ℕ) → c.fuse a b e ≡ true → o (exchange_by c (opposite sign) b a e) (exchange_by c sign a b e) ≡ c.ring.one
-  undone Plus a b e is = inverse a b e is
-  undone Minus a b e is = laws.product_comm _ _ ∙ inverse b a e (sym (proper.commutes a b e) ∙ is)
+  undone Plus a b e is = r_undoes_s c laws proper weighted a b e is
+  undone Minus a b e is = s_undoes_r c laws proper weighted a b e is
 
   -- what isn't zero isn't zero after an exchange
   pub kept : (sign : Sign) (a b e : ℕ) (v : E) → c.fuse a b e ≡ true → IsTrue (c.ring.member v) → c.held.is_zero v ≡ false → c.held.is_zero (o (exchange_by c sign a b e) v) ≡ false

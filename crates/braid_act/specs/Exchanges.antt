@@ -3,11 +3,11 @@ use Rattle.std.specs.Prelude.{◌≡◌, ℕ, ◌+◌, ◌-◌, ◌<◌, Bool, t
 use Rattle.std.specs.List.{list_all}
 use Rattle.symbol_table.specs.Symbols.{Symbols}
 use Rattle.program_text.specs.declared.plan.Sign.{Sign}
-use Rattle.program_text.specs.declared.plan.Sign.TheVariants.{Plus, Minus}
 use Rattle.tree_shapes.specs.Outlines.{size}
 use Rattle.tree_shapes.specs.Settling.{is_pair_at}
 use Rattle.amp_store.specs.Amplitudes.{AreAmplitudes}
 use Rattle.comb_laws.specs.Operators.{exchange_by, strand, swapped}
+use Rattle.path_laws.specs.Moves.{opposite}
 use Rattle.recouple.specs.States.{State, IsStateOf}
 
 -- R(a,b,q), or S(a,b,q) where the exchange is negative, with the labels a and b of the strands k and k + 1 and the label
@@ -26,11 +26,6 @@ exchanged c sign k s = record {
 -- whether each of these products fits
 abbrev pub exchange_fits : {E : Type 0} → Symbols E → Sign → ℕ → State E → Bool
 exchange_fits c sign k s = list_all (λ e. c.ring.product_fits (exchange_at c sign s.strands k e.0) e.1) s.amps
-
--- the other sign
-abbrev pub opposite : Sign → Sign
-opposite Plus = Minus
-opposite Minus = Plus
 
 -- An exchange and then the one of the other sign at the same pair leave a state as it was.
 abbrev pub ExchangesBack : {E : Type 0} → Symbols E → Type 0

@@ -1,3 +1,5 @@
+pub mod NodeLemmas
 pub mod ProjectLemmas
 pub mod SplitLemmas
+pub mod WeightLemmas
 mod Worked

@@ -13,21 +13,24 @@ use Rattle.symbol_table.specs.AllLabels.{IsProper, HasEquations, mark}
 use Rattle.symbol_table.specs.Symbols.{Symbols}
 use Rattle.tree_shapes.specs.Contexts.{place}
 use Rattle.tree_shapes.specs.Outlines.{size}
-use Rattle.comb_laws.specs.Operators.{charge_kernel, projected, term_at}
+use Rattle.comb_laws.specs.Operators.{charge_kernel, projected}
+use Rattle.comb_laws.specs.declared.operator.Operator.TheVariants.{Project}
 use Rattle.comb_laws.specs.Paths.{Path, is_path}
 use Rattle.tree_laws.specs.Entries.{listed, values}
-use Rattle.tree_laws.specs.Trees.{put, stands_for}
+use Rattle.tree_laws.specs.Operators as T
+use Rattle.tree_laws.specs.Trees.{stands_for}
 use Rattle.tree_laws.proofs.Equations as Q
 use Rattle.tree_laws.proofs.Keys.{Key}
 use Rattle.tree_laws.proofs.Pairs.{split_is}
+use Rattle.path_laws.proofs.ActLemmas.{acted_by_place, after_is, kernel_off}
 use Rattle.amp_store.specs.Amplitudes.{AreAmplitudes, amplitude_at}
 use Rattle.amp_store.proofs.CopyLemmas.{amplitudes_part}
 use Rattle.recouple.specs.Raises.{AreOver}
 use Rattle.recouple.specs.States.{State, IsStateOf, comb}
 use Rattle.recouple.proofs.CombLemmas.{value_is}
 use Rattle.recouple.proofs.RotationLemmas.{listed_get}
-use Rattle.recouple.proofs.PairLemmas.{IsPair, stands_at}
-use Rattle.recouple.proofs.PathPlaces.{ByPlace, path_set, path_tells, set_is}
+use Rattle.recouple.proofs.EntryLemmas.{comb_stands}
+use Rattle.recouple.proofs.PairLemmas.{IsPair}
 use Rattle.recouple.proofs.ValueLemmas.{amplitude_member}
 use Rattle.charge_project.specs.Splits.{part_at}
 
@@ -98,69 +101,25 @@ module _ {E : Type 0} (c : Symbols E) (laws : RingLaws c.ring c.held) (proper : 
   abbrev old : (ℕ → ℕ) → E
   old = values c.ring (size s.shape - 1) s.amps
 
-  -- what entries stand for on a path
-  old_stands : (x : Path) → is_path c s.strands x ≡ true → comb c s x ≡ stands_for c s.shape st old (slice_index x)
-  old_stands = stands_at c laws s is order
-
-  new_stands : (x : Path) → is_path c s.strands x ≡ true → comb c (part_at k s q) x ≡ stands_for c s.shape st (values c.ring (size s.shape - 1) part) (slice_index x)
-  new_stands = stands_at c laws (part_at k s q) part_of (amplitudes_part (λ (e : List ℕ × E). slice_index e.0 (k - 1) == q) c.held s.amps order)
-
-  -- the coefficient is zero where the new label makes no path
-  gone : (x : Path) (t : ℕ) → is_path c s.strands x ≡ true → nat_lt t c.count ≡ true → is_path c s.strands (slice_set x k t) ≡ false → (u : ℕ)
-      → c.f (slice_index x (k - 1)) (slice_index s.strands (k - 1)) (slice_index s.strands k) (slice_index x (k + 1)) t u ≡ c.ring.zero
-  gone x t on small off u =
-      let p = slice_index x (k - 1) in
-      let a = slice_index s.strands (k - 1) in
-      let b = slice_index s.strands k in
-      let y = slice_index x (k + 1) in
-      elim (S.true_or_false (c.fuse p a t)) [
-        | inr no' ↦ Q.f_gone c laws proper p a b y t u _ no' (λ h. h.abe)
-        | inl first ↦ elim (S.true_or_false (c.fuse t b y)) [
-          | inr no' ↦ Q.f_gone c laws proper p a b y t u _ no' (λ h. h.emd)
-          | inl both ↦
-              let there = path_set c s.strands s.strands x k t refl (λ j _ _. refl) on low (omega (arith, is.leaves)) small first both in
-              let clash : true ≡ false = sym there ∙ off in
-              absurd (cc)
-        ]
-      ]
-
-  -- one term of the projection
-  term_is : (x : Path) (t : ℕ) → is_path c s.strands x ≡ true → nat_lt t c.count ≡ true
-      → o (o (c.f (slice_index x (k - 1)) (slice_index s.strands (k - 1)) (slice_index s.strands k) (slice_index x (k + 1)) t q) (c.h (slice_index x (k - 1)) (slice_index s.strands (k - 1)) (slice_index s.strands k) (slice_index x (k + 1)) q (slice_index x k)))
-      (stands_for c s.shape st old (put k t (slice_index x)))
-      ≡ o (o (c.f (slice_index x (k - 1)) (slice_index s.strands (k - 1)) (slice_index s.strands k) (slice_index x (k + 1)) t q) (c.h (slice_index x (k - 1)) (slice_index s.strands (k - 1)) (slice_index s.strands k) (slice_index x (k + 1)) q (slice_index x k)))
-      (comb c s (slice_set x k t))
-  term_is x t on small =
-      elim (S.true_or_false (is_path c s.strands (slice_set x k t))) [
-        | inl there ↦
-            ap (o _) (sym (old_stands (slice_set x k t) there ∙ ap (stands_for c s.shape st old) (set_is x k t (omega (arith, ByPlace.long (path_tells c s.strands x on), is.leaves)))))
-        | inr off ↦
-            let none = Q.left_none c laws proper _ _ (gone x t on small off q) in
-            Q.left_none c laws proper _ _ none ∙ sym (Q.left_none c laws proper _ _ none)
-      ]
-
-  project_at : (x : Path) → is_path c s.strands x ≡ true → comb c (part_at k s q) x ≡ total c.ring c.count (term_at c s.strands k (charge_kernel c q) (comb c s) x)
+  -- on paths a part stands for the comb projection by place, which the comb projection is
+  project_at : (x : Path) → is_path c s.strands x ≡ true → comb c (part_at k s q) x ≡ projected c s.strands k q (comb c s) x
   project_at x on =
+      let i = place at.around 0 in
       let X = slice_index x in
-      let e1 : place at.around 0 ≡ k - 1 = omega (arith, at.gap) in
-      let e2 : place at.around 0 + 1 ≡ k = omega (arith, at.gap) in
-      let e3 : place at.around 0 + 2 ≡ k + 1 = omega (arith, at.gap) in
-      let e4 : k ≡ (k + 1) - 1 = omega arith in
-      new_stands x on
+      let short : k < length s.strands = omega (arith, is.leaves) in
+      let part_order = amplitudes_part (λ (e : List ℕ × E). slice_index e.0 (k - 1) == q) c.held s.amps order in
+      comb_stands c (part_at k s q) part_of part_order laws x on
       ∙ ((λ j. stands_for c s.shape st (λ key. part_values key j) X)
       ∙ ((λ j. stands_for c (at.is j) st (λ key. o (mark c (key (at.gap j) == q)) (old key)) X)
       ∙ (split_is c laws proper equations at.around st X old q
-      ∙ ((λ j. total c.ring c.count (λ t. o (o (c.f (X (e1 j)) (st (e1 j)) (st (e2 j)) (X (e3 j)) t q) (c.h (X (e1 j)) (st (e1 j)) (st (e2 j)) (X (e3 j)) q (X (e2 j)))) (stands_for c (sym at.is j) st old (put (e2 j) t X))))
-      ∙ (S.total_same laws c.count _ _ (λ t small. term_is x t on (below t c.count small))
-      ∙ (λ j. total c.ring c.count (λ t. o (o (c.f (X (k - 1)) (st (k - 1)) (st (e4 j)) (X (k + 1)) t q) (c.h (X (k - 1)) (st (k - 1)) (st (e4 j)) (X (k + 1)) q (X k))) (comb c s (slice_set x k t)))))))))
-    where
-      below : (t n : ℕ) → t < n → nat_lt t n ≡ true
-      below t n h = grind (arith, nat_tests)
+      ∙ ((λ j. T.projected c st i q (stands_for c (sym at.is j) st old) X)
+      ∙ sym (acted_by_place c laws proper (charge_kernel c q) (kernel_off c laws proper (Project q)) s.strands s.strands i k at.gap short (after_is (Project q) s.strands i k at.gap short) (comb c s) (stands_for c s.shape st old)
+      (λ y there. comb_stands c s is order laws y there) x on)))))
 
   -- a part stands for the comb projection on its label
   pub project_is : comb c (part_at k s q) ≡ projected c s.strands k q (comb c s)
   project_is = fun_ext (λ x. pick x (is_path c s.strands x) refl)
     where
       pick : (x : Path) (b : Bool) → is_path c s.strands x ≡ b → comb c (part_at k s q) x ≡ projected c s.strands k q (comb c s) x
-      pick x true on = project_at x on ∙ rw on refl
+      pick x true on = project_at x on
       pick x false off = rw off refl

@@ -3,9 +3,9 @@ pub mod AdmissibleLemmas
 pub mod ColumnLemmas
 pub mod CombLemmas
 pub mod EndLemmas
+pub mod EntryLemmas
 pub mod KeyLemmas
 pub mod PairLemmas
-pub mod PathPlaces
 pub mod RotationLemmas
 pub mod RowLemmas
 pub mod SomeLemmas

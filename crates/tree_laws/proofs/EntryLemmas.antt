@@ -27,7 +27,7 @@ at_listed i zero key j h = absurd (omega arith)
 at_listed i (suc n) key zero h = ap key (omega arith)
 at_listed i (suc n) key (suc j) h = at_listed (i + 1) n key j (omega arith) ∙ ap key (omega arith)
 
-listed_same : (n : ℕ) (a b : Key) → Upto n a b → listed 1 n a ≡ listed 1 n b
+pub listed_same : (n : ℕ) (a b : Key) → Upto n a b → listed 1 n a ≡ listed 1 n b
 listed_same n a b h =
     same_number_lists _ _ (length-listed 1 n a ∙ sym (length-listed 1 n b))
     (λ j l. let below : j < n = omega (arith, length-listed 1 n a) in

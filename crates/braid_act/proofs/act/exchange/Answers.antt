@@ -3,12 +3,13 @@ use Rattle.symbol_table.specs.Category.{draft_symbols}
 use Rattle.symbol_table.specs.Symbols.{Symbols}
 use Rattle.amp_store.specs.Amplitudes.{AreAmplitudes, amplitude_at}
 use Rattle.comb_laws.specs.Operators.{swapped}
+use Rattle.path_laws.proofs.ActLemmas.{length-swapped}
 use Rattle.recouple.specs.States.{State, IsStateOf, comb}
 use Rattle.tree_shapes.specs.Outlines.{size}
 use Rattle.recouple.proofs.PairLemmas.{IsPair, pair_there}
 use Rattle.braid_act.specs.Exchanges.{exchange_at, exchanged}
 use Rattle.braid_act.proofs.BraidLemmas.{braid_is}
-use Rattle.braid_act.proofs.StateLemmas.{from_times, of_after, some_after, swapped_long}
+use Rattle.braid_act.proofs.StateLemmas.{from_times, of_after, some_after}
 use Rattle.braid_act.proofs.act.exchange.Given.{Over}
 use Rattle.braid_act.proofs.act.exchange.Goals as goal
 
@@ -58,11 +59,11 @@ returns-clause-some g c some none =
 pub with_parts-requires-clause-leaves : goal.with_parts-requires-clause-leaves
 with_parts-requires-clause-leaves g c =
     ap size (c.copy.ensures ∙ c.shape.ensures)
-    ∙ (c.requires.of.leaves ∙ sym (ap length (c.in_ok-strands.ensures ∙ ap (λ (xs : List ℕ). swapped xs c.args.k) c.strands.ensures) ∙ swapped_long c.args.state.now.strands c.args.k))
+    ∙ (c.requires.of.leaves ∙ sym (ap length (c.in_ok-strands.ensures ∙ ap (λ (xs : List ℕ). swapped xs c.args.k) c.strands.ensures) ∙ length-swapped c.args.state.now.strands c.args.k))
 
 pub with_parts-requires-clause-keys : goal.with_parts-requires-clause-keys
 with_parts-requires-clause-keys g c key v e =
     let s = draft_symbols (g.R.StarRing.ring c.args.category.now.ring) g.R.StarRing.held c.args.category.now in
     let from = from_times (exchange_at s c.args.sign c.args.state.now.strands c.args.k) s.ring.product c.args.state.now.amps key v (ap (λ es. amplitude_at es key) (sym c.in_ok-amps.ensures.amps) ∙ e) in
     ap length (c.in_ok-strands.ensures ∙ ap (λ (xs : List ℕ). swapped xs c.args.k) c.strands.ensures)
-    ∙ (swapped_long c.args.state.now.strands c.args.k ∙ (c.requires.of.over.keys key from.0 from.1).long)
+    ∙ (length-swapped c.args.state.now.strands c.args.k ∙ (c.requires.of.over.keys key from.0 from.1).long)
