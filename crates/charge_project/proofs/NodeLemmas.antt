@@ -8,7 +8,7 @@ use Rattle.tree_shapes.specs.Labelled.{is_admissible}
 use Rattle.tree_shapes.specs.Outlines.{Outline, Tip, Branch, Standing, size, node_at, gap_of, left_gap, left_under, right_gap, right_under, with_labels}
 use Rattle.tree_shapes.proofs.ContextLemmas.{size_above, place_below}
 use Rattle.tree_shapes.proofs.ReaderLemmas.{node_here, node_in}
-use Rattle.tree_shapes.proofs.SettleLemmas.{HasNode, node_there, node_filled}
+use Rattle.tree_shapes.proofs.SettleLemmas.{HasNode, node_there}
 use Rattle.tree_shapes.proofs.TestLemmas.{three}
 use Rattle.tree_laws.specs.Entries.{labels_of}
 use Rattle.tree_laws.specs.Trees.{top}

@@ -1,13 +1,11 @@
 -- A part stands for the comb projection.
-use Rattle.std.proofs.Common.{◌≡◌, ℕ, ◌+◌, ◌-◌, ◌<◌, Bool, true, false, List, [], ◌∷◌, Option, Some, None, unwrap_or, length, refl, ap, sym, ◌∙◌, arith, slice_index, slice_set, inl, inr}
+use Rattle.std.proofs.Common.{◌≡◌, ℕ, ◌-◌, ◌<◌, Bool, true, false, List, [], ◌∷◌, Option, Some, None, unwrap_or, length, refl, ap, sym, ◌∙◌, arith, slice_index}
 use mathlib.Core.Path.{fun_ext}
-use Rattle.std.specs.Prelude.{if◌then◌else◌, ◌==◌, nat_lt, IsTrue}
+use Rattle.std.specs.Prelude.{if◌then◌else◌, ◌==◌, IsTrue}
 use Rattle.std.specs.List.{filter}
 use Rattle.std.specs.Str.{bytes_eq}
-use Rattle.std.proofs.lemmas.Bool.Decides.{nat_tests}
 use Rattle.std.proofs.lemmas.Slice.Eq.{bytes_eq-Decides}
 use Rattle.ring_laws.specs.Ring.{RingLaws}
-use Rattle.ring_laws.specs.Sums.{total}
 use Rattle.ring_laws.proofs.SumLemmas as S
 use Rattle.symbol_table.specs.AllLabels.{IsProper, HasEquations, mark}
 use Rattle.symbol_table.specs.Symbols.{Symbols}
@@ -19,7 +17,6 @@ use Rattle.comb_laws.specs.Paths.{Path, is_path}
 use Rattle.tree_laws.specs.Entries.{listed, values}
 use Rattle.tree_laws.specs.Operators as T
 use Rattle.tree_laws.specs.Trees.{stands_for}
-use Rattle.tree_laws.proofs.Equations as Q
 use Rattle.tree_laws.proofs.Keys.{Key}
 use Rattle.tree_laws.proofs.Pairs.{split_is}
 use Rattle.path_laws.proofs.ActLemmas.{acted_by_place, after_is, kernel_off}

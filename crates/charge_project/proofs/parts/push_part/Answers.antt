@@ -46,7 +46,7 @@ returns-in_ok-push g c =
       shape = (c.with_parts-part.ensures.shape ∙ (c.copy.ensures ∙ c.shape.ensures)) j;
       amps = (c.with_parts-part.ensures.amps ∙ amps) j;
     } in
-    let long : 0 < length c.in_ok-amps.amps = omega (arith, c.if-len-gt0.true, c.len.ensures.len) in
+    let long : 0 < length c.in_ok-amps.amps = omega (arith, c.len.ensures.len) in
     let some : any_left (State.amps (part_at c.args.k c.args.state.now c.args.label)) ≡ true = ap any_left (sym amps) ∙ any_is c.in_ok-amps.amps long in
     ap (parts_of (λ s. s)) c.in_ok-push.ensures.items
     ∙ (map-append (λ p. (p.label, p.state)) c.args.parts.now.items (record { label = c.args.label; state = c.with_parts-part.result } ∷ [])
