@@ -1,5 +1,5 @@
 -- Operators at gaps that are far apart commute.
-use Rattle.std.proofs.Common.{◌≡◌, ℕ, ◌+◌, ◌-◌, ◌<◌, Bool, true, false, List, length, refl, ap, ap₂, sym, ◌∙◌, arith, slice_index}
+use Rattle.std.proofs.Common.{◌≡◌, ℕ, ◌+◌, ◌-◌, ◌<◌, Bool, true, false, List, Option, Some, None, length, refl, ap, ap₂, sym, ◌∙◌, arith, slice_index}
 use mathlib.Core.Path.{fun_ext}
 use Rattle.std.proofs.lemmas.Grind.{same_number_lists}
 use Rattle.ring_laws.specs.Ring.{Held, RingLaws}
@@ -8,12 +8,14 @@ use Rattle.symbol_table.specs.AllLabels.{IsProper}
 use Rattle.symbol_table.specs.Symbols.{Symbols}
 use Rattle.comb_laws.specs.Operators.{Kernel, acted, kernel_of, strands_after}
 use Rattle.comb_laws.specs.Paths.{Path, Vector, is_path}
+use Rattle.comb_laws.specs.Words.{acted_by, comb_acts, operator_on}
+use Rattle.program_text.specs.Letters.{gap_of}
 use Rattle.comb_laws.specs.declared.operator.Operator.{Operator}
 use Rattle.comb_laws.specs.declared.operator.Operator.TheVariants.{Exchange, Project}
 use Rattle.tree_laws.specs.Operators.{swapped}
 use Rattle.tree_laws.specs.Trees.{put}
 use Rattle.tree_laws.proofs.Keys.{Key, put_off, put_swap}
-use Rattle.path_laws.specs.Moves.{FarOperatorsCommute}
+use Rattle.path_laws.specs.Moves.{FarLettersCommute, FarOperatorsCommute}
 use Rattle.path_laws.proofs.ActLemmas as A
 use Rattle.path_laws.proofs.ActLemmas.{after_is, moved, moved_is}
 use Rattle.path_laws.proofs.Across.{across, swapped_off}
@@ -148,3 +150,14 @@ module _ {E : Type 0} (c : Symbols E) {K : Held E} (laws : RingLaws c.ring K) (p
       vectors =
           same_after once other (strands_after second once j) j i (kernel_of c second) (kernel_of c first) (acted c ss once i (kernel_of c first) v) (acted c ss other j (kernel_of c second) v) both
           ∙ (λ k. acted c other (far_strands first second ss i j above far low k) i (kernel_of c first) (acted c ss other j (kernel_of c second) v))
+
+  -- letters are such operators, or nothing
+  pub far_letters : FarLettersCommute c
+  far_letters ss v word first second above far low = by_operators (operator_on word first) (operator_on word second)
+    where
+      by_operators : (a b : Option Operator)
+          → acted_by (comb_acts c) (gap_of second) b (acted_by (comb_acts c) (gap_of first) a (ss, v))
+          ≡ acted_by (comb_acts c) (gap_of first) a (acted_by (comb_acts c) (gap_of second) b (ss, v))
+      by_operators None b = refl
+      by_operators (Some a) None = refl
+      by_operators (Some a) (Some b) = far_operators ss v (gap_of first) (gap_of second) a b above far low

@@ -41,7 +41,7 @@ module _ {E : Type 0} (c : Symbols E) {K : Held E} (laws : RingLaws c.ring K) wh
   weight_by_one ss v j = sum_over c.ring (λ x. o (path_weight c ss x) (square (v x) j)) (paths c ss)
     where
       group : (v k : E) → o (o v c.ring.one) (o k c.ring.one) ≡ o (o (o v k) c.ring.one) c.ring.one
-      group v k = simp (laws.product_assoc, laws.product_comm, S.product_left laws)
+      group v k = simp (laws.product_assoc, S.product_left laws)
 
       square : (v : E) → o (o v c.ring.one) (conj (o v c.ring.one)) ≡ o v (conj v)
       square v =

@@ -67,7 +67,7 @@ module _ {E : Type 0} (c : Symbols E) {K : Held E} (laws : RingLaws c.ring K) (p
         ]
       where
         turn : (s k w : E) → o (o s k) w ≡ o (o w s) k
-        turn s k w = simp (laws.product_assoc, laws.product_comm, S.product_left laws)
+        turn s k w = simp (laws.product_assoc, laws.product_comm)
 
     module _ (equations : HasEquations c) where
       pub r_exchanges : IsExchange c c.r
@@ -113,10 +113,10 @@ module _ {E : Type 0} (c : Symbols E) {K : Held E} (laws : RingLaws c.ring K) (p
         ∙ (sym (S.product-total laws n (C q) _) ∙ (ap (o (C q)) (sym (P.braid_kernel c laws proper equations exchange is.off p a b y q u)) ∙ last _ _ _))))
       where
         group : (b h k : E) → o b (o h k) ≡ o k (o b h)
-        group b h k = simp (laws.product_assoc, laws.product_comm, S.product_left laws)
+        group b h k = simp (laws.product_comm, S.product_left laws)
 
         last : (k r h : E) → o k (o r h) ≡ o h (o r k)
-        last k r h = simp (laws.product_assoc, laws.product_comm, S.product_left laws)
+        last k r h = simp (laws.product_comm, S.product_left laws)
 
     -- a braid goes by the charges of what it is of
     pub act_is : (exchange : ℕ → ℕ → ℕ → E) → IsExchange c exchange → (p a b y : ℕ) (W : ℕ → E)
@@ -216,7 +216,7 @@ module _ {E : Type 0} (c : Symbols E) {K : Held E} (laws : RingLaws c.ring K) (p
           S.total_same laws n _ _ (λ q _. of_charge q) ∙ sym (weight_by_charges p a b y W member none)
         where
           out : (f h w : E) → o (o f h) w ≡ o h (o f w)
-          out f h w = simp (laws.product_assoc, laws.product_comm, S.product_left laws)
+          out f h w = simp (laws.product_assoc, S.product_left laws)
 
           part_is : (q u : ℕ) → part q p a b y W u ≡ o (c.h p a b y q u) (charges p a b y W q)
           part_is q u = S.total_same laws n _ _ (λ t _. out _ _ _) ∙ sym (S.product-total laws n (c.h p a b y q u) _)

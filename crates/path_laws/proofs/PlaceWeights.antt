@@ -55,7 +55,7 @@ module _ {E : Type 0} (c : Symbols E) {K : Held E} (laws : RingLaws c.ring K) wh
       ∙ ((λ j. o (along_is strand x i m j) (c.w (x (at j)) (strand (at j)) (x (at j + 1)))) ∙ turn _ _ _)
     where
       turn : (r w v : E) → o (o r w) v ≡ o (o r v) w
-      turn r w v = simp (laws.product_assoc, laws.product_comm, S.product_left laws)
+      turn r w v = simp (laws.product_assoc, laws.product_comm)
 
   -- the term of a vector's weight, summed over the label at a gap
   at_one : (strand x : Key) (i m : ℕ) (v : Key → E)

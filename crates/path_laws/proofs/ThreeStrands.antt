@@ -116,7 +116,7 @@ module _ {E : Type 0} (c : Symbols E) {K : Held E} (laws : RingLaws c.ring K) (p
           ∙ (S.product-total laws n _ _ ∙ S.total_same laws n _ _ (λ g _. group _ _ _ _)))
         where
           group : (r f s w : E) → o r (o f (o s w)) ≡ o (o (o r f) s) w
-          group r f s w = simp (laws.product_assoc, laws.product_comm, S.product_left laws)
+          group r f s w = simp laws.product_assoc
 
   -- An operator that goes into sums with factors.
   record Linear (op : Two → Two) : Type 0 where
@@ -196,7 +196,7 @@ module _ {E : Type 0} (c : Symbols E) {K : Held E} (laws : RingLaws c.ring K) (p
       w_none u y h = elim (Q.either_off _ _ h) [ inl e ↦ none_b u y e | inr e ↦ none_m u y e ]
 
       group : (h k v : E) → o h (o k v) ≡ o v (o k h)
-      group h k v = simp (laws.product_assoc, laws.product_comm, S.product_left laws)
+      group h k v = simp (laws.product_comm, S.product_left laws)
 
       spread_is : (u y : ℕ) → w u y ≡ spread u y
       spread_is u y =

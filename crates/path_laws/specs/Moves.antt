@@ -5,9 +5,11 @@ use Rattle.tree_shapes.specs.Labelled.{Labelled, leaves}
 use Rattle.comb_laws.specs.Amplitudes.{stands_for, start_vector}
 use Rattle.comb_laws.specs.Operators.{acted, kernel_of, strands_after}
 use Rattle.comb_laws.specs.Paths.{Path, Vector, is_path}
-use Rattle.comb_laws.specs.Words.{comb_acts}
+use Rattle.comb_laws.specs.Words.{comb_acts, on_word}
 use Rattle.comb_laws.specs.declared.operator.Operator.{Operator}
 use Rattle.comb_laws.specs.declared.operator.Operator.TheVariants.{Exchange}
+use Rattle.program_text.specs.Letters.{gap_of}
+use Rattle.program_text.specs.declared.letter.Letter.{Letter}
 use Rattle.program_text.specs.declared.plan.Sign.{Sign}
 use Rattle.program_text.specs.declared.plan.Sign.TheVariants.{Plus, Minus}
 
@@ -18,21 +20,28 @@ FarOperatorsCommute {E} c =
     (strands : List ℕ) (v : Vector E) (i j : ℕ) (first second : Operator) → 0 < i → i + 1 < j → j < length strands
     → comb_acts c j second (comb_acts c i first (strands, v)) ≡ comb_acts c i first (comb_acts c j second (strands, v))
 
+-- The same of two letters of a plan, on every word of outcomes: a letter is one of these operators there, or nothing.
+abbrev pub FarLettersCommute : {E : Type 0} → Symbols E → Type 0
+FarLettersCommute {E} c =
+    (strands : List ℕ) (v : Vector E) (word : List ℕ) (first second : Letter) → 0 < gap_of first → gap_of first + 1 < gap_of second → gap_of second < length strands
+    → on_word (comb_acts c) word second (on_word (comb_acts c) word first (strands, v))
+    ≡ on_word (comb_acts c) word first (on_word (comb_acts c) word second (strands, v))
+
 -- A vector over the strands: members of the ring, and zero at every list that is no path.
 pub record IsOver {E : Type 0} (c : Symbols E) (strands : List ℕ) (v : Vector E) : Type 0 where
   pub members : (x : Path) → IsTrue (c.ring.member (v x))
   pub off : (x : Path) → is_path c strands x ≡ false → v x ≡ c.ring.zero
 
--- The start vector of a tree is such a vector,
+-- The start vector of a tree is a vector over the tree's strands.
 abbrev pub StartsAreOver : {E : Type 0} → Symbols E → Type 0
 StartsAreOver c = (tree : Labelled) → IsOver c (leaves tree) (start_vector c tree)
 
--- so is what a state stands for, whose keys are lists of labels,
+-- What entries with keys of labels stand for, on any trees, is a vector over the strands.
 abbrev pub StatesAreOver : {E : Type 0} → Symbols E → Type 0
 StatesAreOver {E} c =
     (strands : List ℕ) (labelled : List ℕ → Labelled) (entries : List (List ℕ × E)) → IsOver c strands (stands_for c strands labelled entries)
 
--- and what an operator makes of any, over the strands that it leaves.
+-- What an operator makes of any vector is one over the strands that it leaves.
 abbrev pub OperatorsStayOver : {E : Type 0} → Symbols E → Type 0
 OperatorsStayOver {E} c =
     (strands : List ℕ) (v : Vector E) (k : ℕ) (operator : Operator)

@@ -1,6 +1,6 @@
 //! What the laws of a category say of braids and measurements on comb vectors.
 
-ghost use Rattle.path_laws.specs.Moves.{BraidsCancel, FarOperatorsCommute, OperatorsStayOver, StartsAreOver, StatesAreOver, YangBaxter};
+ghost use Rattle.path_laws.specs.Moves.{BraidsCancel, FarLettersCommute, FarOperatorsCommute, OperatorsStayOver, StartsAreOver, StatesAreOver, YangBaxter};
 ghost use Rattle.path_laws.specs.Weights.{BraidsKeepWeight, ChargesShareWeight};
 ghost use Rattle.symbol_table.specs.Category.{symbols};
 
@@ -21,11 +21,12 @@ pub fn weights<R: StarRing>(category: &Category<R>)
 }
 
 /// Any two operators at gaps with another one between them may be made in either order, on every vector, and leave the
-/// same strands.
+/// same strands. So may two letters of a plan, on every word of outcomes.
 ///
 /// It rests on the symbols being zero where not admissible, and on no equation.
 pub fn far_commutation<R: StarRing>(category: &Category<R>)
-    ensures { FarOperatorsCommute (symbols R.StarRing category.now) }
+    ensures operators { FarOperatorsCommute (symbols R.StarRing category.now) }
+    ensures letters { FarLettersCommute (symbols R.StarRing category.now) }
 {
     // What the symbols obey at all labels.
     all_labels(category);

@@ -4,7 +4,8 @@
 //! - *comb path*, *comb vector*, *operator*, *comb braid*, *comb projection*, *comb weight*: those of `comb_laws`, on lists
 //!   of labels.
 //! - *weights*: a braid keeps the weight, and the charges at a gap share it (`specs/Weights.antt`).
-//! - *far commutation*: operators at gaps that aren't neighbours may be made in either order (`specs/Moves.antt`).
+//! - *far commutation*: operators, or letters of a plan, at gaps that aren't neighbours may be made in either order
+//!   (`specs/Moves.antt`).
 //! - *vector over the strands*: members of the ring at paths, zero elsewhere, as starts, states and operators give
 //!   (`specs/Moves.antt`).
 //! - *cancellation*: a braid and its inverse at one gap change nothing (`specs/Moves.antt`).
