@@ -1,14 +1,17 @@
 -- An exchange is undone by the one of the other sign.
-use Rattle.std.proofs.Common.{◌≡◌, ℕ, suc, ◌+◌, ◌-◌, ◌<◌, List, [], ◌∷◌, map, Some, length, get_or, refl, ap, sym, ◌∙◌, arith, slice_index, inl, inr}
+use Rattle.std.proofs.Common.{◌≡◌, ℕ, suc, ◌+◌, ◌-◌, ◌<◌, List, [], ◌∷◌, map, Some, length, refl, ap, sym, ◌∙◌, arith, slice_index}
 use Rattle.std.specs.Prelude.{IsTrue, slice_get}
-use Rattle.std.proofs.lemmas.Bool.Decides.{eqb_tells}
-use Rattle.std.proofs.lemmas.Grind.{same_number_lists}
 use Rattle.ring_laws.specs.Ring.{RingLaws}
 use Rattle.symbol_table.specs.AllLabels.{IsProper, IsWeighted}
 use Rattle.symbol_table.specs.Symbols.{Symbols}
 use Rattle.comb_laws.specs.Operators.{exchange_by, swapped}
 use Rattle.recouple.proofs.PairLemmas.{pair_fuses, pair_there}
-use Rattle.braid_act.specs.Exchanges.{exchange_at, ExchangesBack, opposite}
+use Rattle.path_laws.specs.Moves.{opposite}
+use Rattle.path_laws.proofs.Across.{swapped_first, swapped_second}
+use Rattle.path_laws.proofs.ActLemmas.{swapped_is}
+use Rattle.path_laws.proofs.CancelLemmas.{swapped_back}
+use Rattle.recouple.proofs.EntryLemmas.{entry_is}
+use Rattle.braid_act.specs.Exchanges.{exchange_at, ExchangesBack}
 use Rattle.braid_act.proofs.StateLemmas.{times}
 use Rattle.braid_act.proofs.SymbolLemmas.{undone}
 

@@ -1,12 +1,8 @@
 -- What an exchange at a pair leaves stands for the comb braid.
-use Rattle.std.proofs.Common.{◌≡◌, ℕ, ◌+◌, ◌-◌, ◌<◌, Bool, true, false, Option, Some, None, unwrap_or, length, refl, ap, sym, ◌∙◌, arith, slice_index, slice_set, inl, inr}
+use Rattle.std.proofs.Common.{◌≡◌, ℕ, ◌+◌, ◌-◌, ◌<◌, Bool, true, false, Option, Some, None, unwrap_or, length, refl, ap, sym, ◌∙◌, arith, slice_index}
 use mathlib.Core.Path.{fun_ext}
-use Rattle.std.specs.Prelude.{nat_lt}
 use Rattle.std.specs.Option.{option_map}
-use Rattle.std.proofs.lemmas.Bool.Decides.{nat_tests}
 use Rattle.ring_laws.specs.Ring.{RingLaws}
-use Rattle.ring_laws.specs.Sums.{total}
-use Rattle.ring_laws.proofs.SumLemmas as S
 use Rattle.symbol_table.specs.AllLabels.{IsProper, HasEquations}
 use Rattle.symbol_table.specs.Symbols.{Symbols}
 use Rattle.program_text.specs.declared.plan.Sign.{Sign}
@@ -16,7 +12,6 @@ use Rattle.tree_shapes.specs.Outlines.{size}
 use Rattle.tree_laws.specs.Entries.{listed, values}
 use Rattle.tree_laws.specs.Operators as T
 use Rattle.tree_laws.specs.Trees.{stands_for}
-use Rattle.tree_laws.proofs.Equations as Q
 use Rattle.tree_laws.proofs.Keys.{Key}
 use Rattle.tree_laws.proofs.Pairs.{exchanged_is}
 use Rattle.amp_store.specs.Amplitudes.{AreAmplitudes, amplitude_at}

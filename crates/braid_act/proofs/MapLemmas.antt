@@ -1,21 +1,19 @@
 -- Amplitudes with other numbers at the same keys, put one after another.
-use Rattle.std.proofs.Common.{◌≡◌, ℕ, zero, suc, ◌+◌, Bool, true, false, List, [], ◌∷◌, ◌++◌, map, take, Option, Some, None, inl, inr, refl, ap, sym, ◌∙◌, subst, arith}
+use Rattle.std.proofs.Common.{◌≡◌, ℕ, zero, suc, ◌+◌, Bool, true, false, List, [], ◌∷◌, ◌++◌, map, take, Option, Some, None, refl, ap, sym, ◌∙◌, subst, arith}
 use Rattle.std.specs.Prelude.{slice_get, if◌then◌else◌, ◌&&◌}
 use Rattle.std.specs.BTreeMap.{insert_entry}
 use Rattle.std.specs.List.{AllByRecursion, list_all}
 use Rattle.std.specs.List.Sorted.{IsStrictlySortedBy}
 use Rattle.std.specs.Map.{keys_of}
-use Rattle.std.specs.Str.{bytes_eq}
 use Rattle.std.specs.Ordering.{match_ordering}
-use Rattle.std.specs.declared.cmp.Ordering.TheVariants.{Less, Equal, Greater}
+use Rattle.std.specs.declared.cmp.Ordering.TheVariants.{Less, Greater}
 use Rattle.std.proofs.lemmas.List.{map-append}
-use Rattle.std.proofs.lemmas.Slice.Eq.{bytes_eq-Decides}
 use Rattle.ring_laws.specs.Ring.{Held, Ring}
 use Rattle.ring_laws.specs.Stated.{product_at}
 use Rattle.ring_laws.proofs.SumLemmas as S
 use Rattle.ring_laws.proofs.StatedLemmas.{some_inj}
-use Rattle.amp_store.specs.Amplitudes.{key_cmp, amplitude_at, AreAmplitudes}
-use Rattle.amp_store.proofs.EditLemmas.{same_keys, turned_round}
+use Rattle.amp_store.specs.Amplitudes.{key_cmp, AreAmplitudes}
+use Rattle.amp_store.proofs.EditLemmas.{turned_round}
 use Rattle.recouple.proofs.AdmissibleLemmas.{and_true}
 use Rattle.recouple.proofs.EndLemmas.{take_one}
 

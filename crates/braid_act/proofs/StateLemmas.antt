@@ -1,9 +1,8 @@
 -- What an exchange at a pair leaves is a state of the category.
-use Rattle.std.proofs.Common.{◌≡◌, ◌≢◌, ℕ, ◌+◌, ◌-◌, ◌<◌, Bool, true, false, List, [], ◌∷◌, map, Option, Some, None, length, length-set, get_or, set, get_or-set_same, get_or-set_other, refl, ap, sym, ◌∙◌, subst, arith, slice_index, inl, inr}
+use Rattle.std.proofs.Common.{◌≡◌, ◌≢◌, ℕ, ◌+◌, ◌-◌, ◌<◌, Bool, true, false, List, [], ◌∷◌, map, Option, Some, None, length, get_or, set, refl, ap, sym, ◌∙◌, subst, arith, slice_index}
 use Rattle.std.specs.Prelude.{IsTrue, if◌then◌else◌, slice_get}
 use Rattle.std.specs.Option.{option_map}
 use Rattle.std.specs.Str.{bytes_eq}
-use Rattle.std.proofs.lemmas.Bool.Decides.{eqb_tells}
 use Rattle.std.proofs.lemmas.List.Elements.{All-set}
 use Rattle.std.proofs.lemmas.Slice.Eq.{bytes_eq-Decides}
 use Rattle.ring_laws.specs.Ring.{RingLaws}
@@ -17,9 +16,6 @@ use Rattle.tree_shapes.specs.Labelled.{is_admissible}
 use Rattle.tree_shapes.specs.Outlines.{size, with_labels}
 use Rattle.tree_laws.specs.Entries.{labels_of}
 use Rattle.tree_laws.specs.Laws.{pair}
-use Rattle.tree_laws.specs.Operators as T
-use Rattle.tree_laws.specs.Trees.{put}
-use Rattle.tree_laws.proofs.Keys.{put_here, put_off, same_key}
 use Rattle.amp_store.specs.Amplitudes.{AreAmplitudes, amplitude_at}
 use Rattle.amp_store.proofs.EditLemmas.{nonzero_in}
 use Rattle.comb_laws.specs.Operators.{swapped}
