@@ -5,3 +5,8 @@ pub mod StartLemmas
 pub mod AcceptLemmas
 pub mod WritingLemmas
 pub mod Tried
+pub mod RunLemmas
+pub mod GapLemmas
+pub mod TreeLemmas
+pub mod DraftLemmas
+pub mod Worked

@@ -5,3 +5,8 @@ pub mod Letters
 pub mod Reading
 pub mod Parts
 pub mod Laws
+pub mod Steps
+pub mod Gaps
+pub mod Trees
+pub mod Grammar
+pub mod Answers

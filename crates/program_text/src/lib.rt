@@ -12,19 +12,36 @@
 #![tactic(auto)]
 
 mod comb;
+mod command_line;
 mod commands;
+mod draft;
+mod fault;
 mod form;
+mod gaps;
+mod head;
 mod laws;
 mod letter;
+mod line_form;
+mod name;
+mod piece;
+mod pieces;
 mod plan;
+mod program;
+mod push;
 mod reading;
+mod site_line;
 mod start;
+mod tree_reading;
+mod words;
 mod writing;
 
+pub use fault::{ProgramCause, ProgramFault};
 pub use form::{COMB_STRANDS, COMMAND_LIMIT};
-pub use laws::comb_texts;
+pub use gaps::first_bad_gap;
+pub use laws::{comb_texts, tree_grammar};
 pub use letter::Letter;
-pub use plan::{Command, Plan, Sign, Site};
+pub use plan::{Command, Outcome, Plan, Sign, Site};
+pub use program::read_program;
 pub use reading::read_comb_program;
 
 #[cfg(test)]

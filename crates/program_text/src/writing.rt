@@ -97,6 +97,7 @@ fn extend_command(command: &Command, out: &mut Vec<u8>) -> Result<(), AllocError
     ensures { Extends result out.old.items out.new.items (spelled (command_words command.now ∷ [])) }
 {
     let (verb, gap) = match *command {
+        Command::BraidWhen { .. } => return end_line(out),
         Command::Braid { gap, .. } => (b"braid".as_slice(), gap),
         Command::Raise { gap } => (b"raise".as_slice(), gap),
         Command::Measure { gap } => (b"measure".as_slice(), gap),
