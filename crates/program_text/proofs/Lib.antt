@@ -10,3 +10,5 @@ pub mod GapLemmas
 pub mod TreeLemmas
 pub mod DraftLemmas
 pub mod Worked
+pub mod KeptLemmas
+pub mod WellLemmas

@@ -1,4 +1,4 @@
-ghost use Rattle.program_text.specs.Laws.{CombSound, CombComplete, CombOneText};
+ghost use Rattle.program_text.specs.Laws.{AllWellFormed, CombSound, CombComplete, CombOneText};
 ghost use Rattle.program_text.specs.Trees.{TreeAgain, TreeExact};
 
 /// A comb program that is read has the form and its text is the canonical one; the canonical text of each comb
@@ -13,4 +13,9 @@ pub fn comb_texts()
 pub fn tree_grammar()
     ensures again { TreeAgain }
     ensures exact { TreeExact }
+{}
+
+/// What a text says is well formed.
+pub fn program_texts()
+    ensures well_formed { AllWellFormed }
 {}

@@ -38,7 +38,7 @@ mod writing;
 pub use fault::{ProgramCause, ProgramFault};
 pub use form::{COMB_STRANDS, COMMAND_LIMIT};
 pub use gaps::first_bad_gap;
-pub use laws::{comb_texts, tree_grammar};
+pub use laws::{comb_texts, program_texts, tree_grammar};
 pub use letter::Letter;
 pub use plan::{Command, Outcome, Plan, Sign, Site};
 pub use program::read_program;

@@ -9,6 +9,7 @@ ghost use Rattle.tree_shapes.specs.declared.limits.TheConstants.{STRAND_LIMIT};
 ghost use Rattle.program_text.specs.Answers.{Says, Told, so_far};
 ghost use Rattle.program_text.specs.Grammar.{begun, body_of, line_of, program_in, program_said};
 ghost use Rattle.program_text.specs.Program.{program_of};
+ghost use Rattle.program_text.specs.WellFormed.{IsProgram};
 
 use crate::command_line::read_command;
 use crate::draft::Draft;
@@ -28,8 +29,7 @@ use tree_shapes::Tree;
 /// written `(L R):q`, and then lines `site NAME FIRST LAST`, `braid K +`, `braid K -`, `raise K` and `measure K`; in version
 /// 2 also `measure K as NAME` and `braid K S when NAME LABEL`. Commands belong to the site before them; without a site
 /// line there is the one site `main` with all strands. The names are as many as the labels of the rules. `Memory` is
-/// free.
-#[tactic(auto, unfolding(crate::specs::Grammar::program_in))]
+/// free. A program that is read is well formed.
 pub fn read_program(
     alloc: Global,
     names: &Names,
@@ -39,6 +39,22 @@ pub fn read_program(
     requires short { length bytes.now < 2 ^ 32 - 1 }
     requires counts { length names.now ≡ rules.now.count }
     ensures program { Told program_of result (program_in names.now (fuses rules.now) bytes.now) }
+    ensures well_formed { IfOk result (λ plan. IsProgram (fuses rules.now) rules.now.count (program_of plan)) }
+{
+    read_lines(alloc, names, rules, bytes)
+}
+
+/// Reads the lines of a program.
+#[tactic(auto, unfolding(crate::specs::Grammar::program_in))]
+fn read_lines(
+    alloc: Global,
+    names: &Names,
+    rules: &Rules,
+    bytes: &[u8],
+) -> Result<Plan, ProgramFault>
+    requires short { length bytes.now < 2 ^ 32 - 1 }
+    requires counts { length names.now ≡ rules.now.count }
+    ensures { Told program_of result (program_in names.now (fuses rules.now) bytes.now) }
 {
     let mut lines = Lines::new(bytes);
     let (version, start) = read_head(alloc, names, rules, &mut lines)?;
