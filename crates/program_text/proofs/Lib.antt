@@ -12,3 +12,4 @@ pub mod DraftLemmas
 pub mod Worked
 pub mod KeptLemmas
 pub mod WellLemmas
+pub mod WrittenLemmas

@@ -1,5 +1,6 @@
 -- The programs of small texts, and each cause of a fault.
 use Rattle.std.proofs.Common.{◌≡◌, ℕ, List, [], ◌∷◌, ◌++◌, Bool, ◌&&◌, ◌||◌, not, ◌==◌, refl, replicate, Result, Ok, Err, codes}
+use Rattle.std.specs.Fmt.{digits}
 use Rattle.line_text.specs.declared.fault.LineCause.TheVariants.{TooLong, NotAscii}
 use Rattle.tree_shapes.specs.Labelled.{Strand, Joined}
 use Rattle.program_text.specs.declared.plan.Sign.TheVariants.{Plus, Minus}
@@ -9,6 +10,7 @@ use Rattle.program_text.specs.declared.fault.ProgramCause.{ProgramCause}
 use Rattle.program_text.specs.declared.fault.ProgramCause.TheVariants as cause
 use Rattle.program_text.specs.Program.{Program, ProgramSite}
 use Rattle.program_text.specs.Steps.{Fault}
+use Rattle.program_text.specs.Written.{written}
 use Rattle.program_text.specs.Grammar.{SoFar, program_in, head_of, start_of, site_of_line, command_of_line, with_command, begun}
 
 names : List (List ℕ)
@@ -293,3 +295,20 @@ last_allowed : command_of_line names 2 almost_full (codes "measure" ∷ codes "1
     ≡ Ok (with_command almost_full (Measure 1) (record { name = codes "x"; place = 7 } ∷ []))
 unfolding command_of_line names
 last_allowed = refl
+
+-- Canonical texts: the site `main` with all strands has no line where it is the only one; a name stands at its own
+-- measurement, and a test says the name of its place.
+one_site : written names (record { version = 1; start = Joined (Strand 1) (Joined (Strand 1) (Strand 2) 1) 2; sites = site (codes "main") 1 3 (Raise 2 ∷ Braid 1 Minus ∷ []) ∷ []; outcomes = [] })
+    ≡ codes "program 1\nstart (s (s p):s):p\nraise 2\nbraid 1 -\n"
+unfolding written digits names
+one_site = refl
+
+part_of_strands : written names (record { version = 1; start = Joined (Strand 1) (Strand 1) 2; sites = site (codes "main") 1 1 [] ∷ []; outcomes = [] })
+    ≡ codes "program 1\nstart (s s):p\nsite main 1 1\n"
+unfolding written digits names
+part_of_strands = refl
+
+two_sites : written names (record { version = 2; start = Joined (Joined (Joined (Strand 1) (Strand 1) 2) (Strand 1) 1) (Strand 1) 2; sites = site (codes "A") 1 2 (Measure 1 ∷ Measure 1 ∷ []) ∷ site (codes "B") 3 4 (Measure 3 ∷ BraidWhen 3 Plus 1 2 ∷ BraidWhen 3 Minus 2 0 ∷ []) ∷ []; outcomes = record { name = codes "x"; place = 1 } ∷ record { name = codes "y_1"; place = 2 } ∷ [] })
+    ≡ codes "program 2\nstart (((s s):p s):s s):p\nsite A 1 2\nmeasure 1\nmeasure 1 as x\nsite B 3 4\nmeasure 3 as y_1\nbraid 3 + when x p\nbraid 3 - when y_1 1\n"
+unfolding written digits names
+two_sites = refl

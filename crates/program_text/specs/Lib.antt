@@ -10,4 +10,5 @@ pub mod Trees
 pub mod Grammar
 pub mod Answers
 pub mod WellFormed
+pub mod Written
 pub mod Laws
