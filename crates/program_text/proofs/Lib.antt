@@ -13,3 +13,4 @@ pub mod Worked
 pub mod KeptLemmas
 pub mod WellLemmas
 pub mod WrittenLemmas
+pub mod AgainLemmas
