@@ -14,3 +14,4 @@ pub mod KeptLemmas
 pub mod WellLemmas
 pub mod WrittenLemmas
 pub mod AgainLemmas
+pub mod NamedLemmas
