@@ -15,3 +15,4 @@ pub mod WellLemmas
 pub mod WrittenLemmas
 pub mod AgainLemmas
 pub mod NamedLemmas
+pub mod FoldLemmas
