@@ -5,10 +5,10 @@ use Rattle.std.specs.List.{AllByRecursion}
 use Rattle.std.proofs.lemmas.Bool.Decides.{nat_tests}
 use Rattle.symbol_table.specs.Symbols.{Symbols}
 use Rattle.program_text.specs.Form.{is_gap, is_measured_braid}
-use Rattle.program_text.specs.Letters.{gap_of, letters, outcomes_of}
+use Rattle.program_text.specs.Letters.{IsTestOf, gap_of, letters, outcomes_of}
 use Rattle.program_text.specs.declared.letter.Letter.{Letter}
 use Rattle.program_text.specs.declared.plan.Command.{Command}
-use Rattle.program_text.specs.declared.plan.Command.TheVariants.{Braid, Raise, Measure}
+use Rattle.program_text.specs.declared.plan.Command.TheVariants.{Braid, Raise, Measure, BraidWhen}
 use Rattle.word_runs.specs.Told.{IsGap}
 use Rattle.word_runs.specs.Runs.{Live, ◌>>>◌, fitting, run_of, Stops}
 use Rattle.word_runs.specs.declared.fault.StepFault.{StepFault}
@@ -25,6 +25,15 @@ pub length-letters : (p : ℕ) (cs : List Command) → length (letters p cs) ≡
 length-letters p [] = refl
 length-letters p (c ∷ cs) = ap suc (length-letters (p + outcomes_of c) cs)
 
+-- a braid and its measurement have no tests
+pub form_tests : (n m : ℕ) (cs : List Command) → is_measured_braid n cs ≡ true → AllByRecursion (IsTestOf m) cs
+form_tests n m [] h = absurd (cc)
+form_tests n m (Raise k ∷ cs) h = absurd (cc)
+form_tests n m (BraidWhen k sign place label ∷ cs) h = absurd (cc)
+form_tests n m (Measure k ∷ x ∷ cs) h = absurd (cc)
+form_tests n m (Measure k ∷ []) h = (tt, tt)
+form_tests n m (Braid k sign ∷ cs) h = (tt, form_tests n m cs (and_true (is_gap n k) (is_measured_braid n cs) h).1)
+
 module _ {E : Type 0} (c : Symbols E) (n : ℕ) where
   gap_is : (k : ℕ) → is_gap n k ≡ true → IsGap (comb_told c n) k
   gap_is k h =
@@ -37,6 +46,7 @@ module _ {E : Type 0} (c : Symbols E) (n : ℕ) where
   pub form_gaps : (p : ℕ) (cs : List Command) → is_measured_braid n cs ≡ true → AllByRecursion (λ l. IsGap (comb_told c n) (gap_of l)) (letters p cs)
   form_gaps p [] h = absurd (cc)
   form_gaps p (Raise k ∷ cs) h = absurd (cc)
+  form_gaps p (BraidWhen k sign place label ∷ cs) h = absurd (cc)
   form_gaps p (Measure k ∷ x ∷ cs) h = absurd (cc)
   form_gaps p (Measure k ∷ []) h = (gap_is k h, tt)
   form_gaps p (Braid k sign ∷ cs) h =

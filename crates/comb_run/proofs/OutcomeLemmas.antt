@@ -13,7 +13,7 @@ use Rattle.ring_laws.proofs.StatedLemmas.{some_inj, bind_some, sum_given, produc
 use Rattle.symbol_table.specs.Symbols.{Symbols}
 use Rattle.tree_shapes.specs.Labelled.{Labelled, leaves, size}
 use Rattle.program_text.specs.declared.plan.Command.{Command}
-use Rattle.program_text.specs.declared.plan.Command.TheVariants.{Braid, Raise, Measure}
+use Rattle.program_text.specs.declared.plan.Command.TheVariants.{Braid, Raise, Measure, BraidWhen}
 use Rattle.program_text.specs.Letters.{letters, measurements}
 use Rattle.program_text.specs.declared.plan.Sign.{Sign}
 use Rattle.program_text.specs.declared.letter.Letter.TheVariants.{Crossing, Charge}
@@ -175,6 +175,7 @@ module _ {E : Type 0} (c : Symbols E) (laws : RingLaws c.ring c.held) where
       → run_of (comb_told c n) turn (letters 0 cs) (one_live strands v) ≡ Ok ends → rows_at c ends ≡ Some rows → rows ≡ inner_rows_from c strands v cs
   run_value n [] turn strands v ends rows form e w = absurd (cc)
   run_value n (Raise k ∷ cs) turn strands v ends rows form e w = absurd (cc)
+  run_value n (BraidWhen k sign place label ∷ cs) turn strands v ends rows form e w = absurd (cc)
   run_value n (Measure k ∷ x ∷ cs) turn strands v ends rows form e w = absurd (cc)
   run_value n (Measure k ∷ []) turn strands v ends rows form e w =
       let step = ok_first (turn_of (comb_told c n) turn (Charge k 0) (one_live strands v)) (run_of (comb_told c n) (turn + 1) []) ends e in
@@ -191,6 +192,7 @@ module _ {E : Type 0} (c : Symbols E) (laws : RingLaws c.ring c.held) where
   measured_once n [] h = absurd (cc)
   measured_once n (Braid k sign ∷ cs) h = measured_once n cs (and_true (is_gap n k) (is_measured_braid n cs) h).1
   measured_once n (Raise k ∷ cs) h = absurd (cc)
+  measured_once n (BraidWhen k sign place label ∷ cs) h = absurd (cc)
   measured_once n (Measure k ∷ []) h = refl
   measured_once n (Measure k ∷ x ∷ cs) h = absurd (cc)
 

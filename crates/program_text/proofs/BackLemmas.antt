@@ -13,7 +13,7 @@ use Rattle.fusion_rules.proofs.NameLemmas.{spelled}
 use Rattle.tree_shapes.specs.Labelled.{Labelled, Strand, Joined, is_left_comb}
 use Rattle.program_text.specs.declared.plan.Sign.TheVariants.{Plus, Minus}
 use Rattle.program_text.specs.declared.plan.Command.{Command}
-use Rattle.program_text.specs.declared.plan.Command.TheVariants.{Braid, Raise, Measure}
+use Rattle.program_text.specs.declared.plan.Command.TheVariants.{Braid, Raise, Measure, BraidWhen}
 use Rattle.fusion_rules.specs.Names.{name_of}
 use Rattle.program_text.specs.Canonical.{opened, tree_words, command_words}
 use Rattle.program_text.specs.Form.{labels_below}
@@ -86,12 +86,14 @@ gap_again gap small =
 abbrev pub IsRead : Command → Type 0
 IsRead (Braid gap sign) = gap < 256
 IsRead (Raise gap) = ⊥
+IsRead (BraidWhen gap sign place label) = ⊥
 IsRead (Measure gap) = gap < 256
 
 command_again : (command : Command) → IsRead command → command_of (command_words command) ≡ Some command
 command_again (Braid gap Plus) small = rw (gap_again gap small) refl
 command_again (Braid gap Minus) small = rw (gap_again gap small) refl
 command_again (Raise gap) small = absurd small
+command_again (BraidWhen gap sign place label) small = absurd small
 command_again (Measure gap) small = rw (gap_again gap small) refl
 
 abbrev pub AllRead : List Command → Type 0
@@ -102,6 +104,7 @@ line_plain : (command : Command) → IsRead command → all_plain (command_words
 line_plain (Braid gap Plus) small = rw ((gap_word gap (omega arith)).plain) refl
 line_plain (Braid gap Minus) small = rw ((gap_word gap (omega arith)).plain) refl
 line_plain (Raise gap) small = absurd small
+line_plain (BraidWhen gap sign place label) small = absurd small
 line_plain (Measure gap) small = rw ((gap_word gap (omega arith)).plain) refl
 
 pub commands_again : (before commands : List Command) (n : ℕ) → AllRead commands → commands_from before (counted n (map command_words commands)) ≡ Some (before ++ commands)

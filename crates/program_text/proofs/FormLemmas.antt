@@ -14,10 +14,10 @@ use Rattle.tree_shapes.specs.Labelled.{Labelled, size, is_left_comb, is_admissib
 use Rattle.program_text.specs.declared.form.TheConstants.{COMB_STRANDS, COMMAND_LIMIT}
 use Rattle.program_text.specs.declared.plan.Sign.TheVariants.{Plus, Minus}
 use Rattle.program_text.specs.declared.plan.Command.{Command}
-use Rattle.program_text.specs.declared.plan.Command.TheVariants.{Braid, Raise, Measure}
-use Rattle.program_text.specs.Program.{Program, ProgramSite}
+use Rattle.program_text.specs.declared.plan.Command.TheVariants.{Braid, Raise, Measure, BraidWhen}
+use Rattle.program_text.specs.Program.{Program, ProgramOutcome, ProgramSite}
 use Rattle.program_text.specs.Canonical.{tree_words, command_words, is_main, canonical_program}
-use Rattle.program_text.specs.Form.{labels_below, is_comb_start, is_gap, is_measured_braid, are_comb_commands, are_comb_sites, is_comb_program}
+use Rattle.program_text.specs.Form.{labels_below, is_comb_start, is_gap, is_measured_braid, are_comb_commands, are_comb_sites, are_none, is_plain, is_comb_program}
 use Rattle.program_text.specs.Reading.{◌>>=◌, start_of, commands_from, main_site, main_program, candidate, comb_program_of}
 use Rattle.program_text.specs.Laws.{CombSound, CombComplete, CombOneText}
 use Rattle.fusion_rules.proofs.FoundLemmas.{same_text}
@@ -67,17 +67,27 @@ pub record IsComb (fuse : ℕ → ℕ → ℕ → Bool) (count : ℕ) (p : Progr
 
 pub comb_is : (fuse : ℕ → ℕ → ℕ → Bool) (count : ℕ) (p : Program) → is_comb_program fuse count p ≡ true → IsComb fuse count p
 comb_is fuse count p is =
-    let parts = both (is_comb_start fuse count p.start) (are_comb_sites (size p.start) p.sites) is in
-    by_sites p.sites refl (start_is fuse count p.start parts.0) parts.1
+    let plain = both (is_plain p) (is_comb_start fuse count p.start && are_comb_sites (size p.start) p.sites) is in
+    let first = both (p.version == 1) (are_none p.outcomes) plain.0 in
+    let parts = both (is_comb_start fuse count p.start) (are_comb_sites (size p.start) p.sites) plain.1 in
+    by_sites p.sites refl (grind (arith, nat_tests)) (none_are p.outcomes first.1) (start_is fuse count p.start parts.0) parts.1
   where
-    by_sites : (sites : List ProgramSite) → p.sites ≡ sites → IsStart fuse count p.start → are_comb_sites (size p.start) sites ≡ true → IsComb fuse count p
-    by_sites [] e start is = absurd (cc)
-    by_sites (s ∷ t ∷ more) e start is = absurd (cc)
-    by_sites (s ∷ []) e start is =
+    none_are : (outcomes : List ProgramOutcome) → are_none outcomes ≡ true → outcomes ≡ []
+    none_are [] e = refl
+    none_are (o ∷ os) e = absurd (cc)
+
+    with_same : (version : ℕ) (sites old : List ProgramSite) (outcomes : List ProgramOutcome) → version ≡ 1 → outcomes ≡ [] → sites ≡ old
+        → ◌≡◌ {A = Program} (record { version = version; start = p.start; sites = sites; outcomes = outcomes }) (record { version = 1; start = p.start; sites = old; outcomes = [] })
+    with_same version sites old outcomes e f g = rw (e, f, g) refl
+
+    by_sites : (sites : List ProgramSite) → p.sites ≡ sites → p.version ≡ 1 → p.outcomes ≡ [] → IsStart fuse count p.start → are_comb_sites (size p.start) sites ≡ true → IsComb fuse count p
+    by_sites [] e version none start is = absurd (cc)
+    by_sites (s ∷ t ∷ more) e version none start is = absurd (cc)
+    by_sites (s ∷ []) e version none start is =
         let site = both (is_main (size p.start) s) (are_comb_commands (size p.start) s.commands) is in
         record {
           commands = s.commands;
-          same = ap (λ (sites : List ProgramSite). record { start = p.start; sites = sites }) (e ∙ ap (λ (x : ProgramSite). x ∷ []) (main_is (size p.start) s site.0));
+          same = with_same p.version p.sites (main_site (size p.start) s.commands ∷ []) p.outcomes version none (e ∙ ap (λ (x : ProgramSite). x ∷ []) (main_is (size p.start) s site.0));
           start = start;
           allowed = site.1;
         }
@@ -101,6 +111,7 @@ pub all_read : (strands : ℕ) (commands : List Command) → strands ≤ COMB_ST
 all_read strands [] few is = tt
 all_read strands (Braid gap sign ∷ cs) few is = let h = both (is_gap strands gap) (is_measured_braid strands cs) is in (omega (arith, gap_small strands gap few h.0), all_read strands cs few h.1)
 all_read strands (Raise gap ∷ cs) few is = absurd (cc)
+all_read strands (BraidWhen gap sign place label ∷ cs) few is = absurd (cc)
 all_read strands (Measure gap ∷ []) few is = (omega (arith, gap_small strands gap few is), tt)
 all_read strands (Measure gap ∷ c ∷ cs) few is = absurd (cc)
 
@@ -108,6 +119,7 @@ command_line : (command : Command) → IsRead command → IsPlainLine (command_w
 command_line (Braid gap Plus) small = let w = gap_word gap (omega arith) in record { plain = rw (w.plain) refl; counts = refl; short = omega (arith, w.short, length-append (decimal gap) (32 ∷ codes "+")) }
 command_line (Braid gap Minus) small = let w = gap_word gap (omega arith) in record { plain = rw (w.plain) refl; counts = refl; short = omega (arith, w.short, length-append (decimal gap) (32 ∷ codes "-")) }
 command_line (Raise gap) small = absurd small
+command_line (BraidWhen gap sign place label) small = absurd small
 command_line (Measure gap) small = let w = gap_word gap (omega arith) in record { plain = rw (w.plain) refl; counts = refl; short = omega (arith, w.short) }
 
 command_lines : (commands : List Command) → AllRead commands → ArePlainLines (map command_words commands)

@@ -5,3 +5,14 @@ pub mod StartLemmas
 pub mod AcceptLemmas
 pub mod WritingLemmas
 pub mod Tried
+pub mod RunLemmas
+pub mod GapLemmas
+pub mod TreeLemmas
+pub mod DraftLemmas
+pub mod Worked
+pub mod KeptLemmas
+pub mod WellLemmas
+pub mod WrittenLemmas
+pub mod AgainLemmas
+pub mod NamedLemmas
+pub mod FoldLemmas

@@ -18,7 +18,7 @@ spaced_on-closed : (w : List ℕ) (ws : List (List ℕ)) (tail : List ℕ) → s
 spaced_on-closed w [] tail = ap (λ l. 32 ∷ l) (append-nil (w ++ tail))
 spaced_on-closed w (v ∷ ws) tail = ap (λ l. 32 ∷ (w ++ l)) (spaced_on-closed v ws tail) ∙ ap (λ l. 32 ∷ l) (sym (append_assoc w (32 ∷ spaced (v ∷ ws)) tail))
 
-some_words : (names : List (List ℕ)) (t : Labelled) → 0 < length (tree_words names t)
+pub some_words : (names : List (List ℕ)) (t : Labelled) → 0 < length (tree_words names t)
 some_words names (Strand a) = omega arith
 some_words names (Joined l r q) = by_words (tree_words names l) (some_words names l)
   where

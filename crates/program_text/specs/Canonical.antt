@@ -9,7 +9,7 @@ use Rattle.tree_shapes.specs.Labelled.{Labelled, Strand, Joined, size}
 use Rattle.program_text.specs.declared.plan.Sign.{Sign}
 use Rattle.program_text.specs.declared.plan.Sign.TheVariants.{Plus, Minus}
 use Rattle.program_text.specs.declared.plan.Command.{Command}
-use Rattle.program_text.specs.declared.plan.Command.TheVariants.{Braid, Raise, Measure}
+use Rattle.program_text.specs.declared.plan.Command.TheVariants.{Braid, Raise, Measure, BraidWhen}
 use Rattle.program_text.specs.Program.{Program, ProgramSite}
 
 -- words with `(` in front of the first
@@ -33,11 +33,12 @@ abbrev pub sign_word : Sign → List ℕ
 sign_word Plus = codes "+"
 sign_word Minus = codes "-"
 
--- the line of a command
+-- the line of a command of a comb program, which has no tests
 abbrev pub command_words : Command → List (List ℕ)
 command_words (Braid gap sign) = codes "braid" ∷ decimal gap ∷ sign_word sign ∷ []
 command_words (Raise gap) = codes "raise" ∷ decimal gap ∷ []
 command_words (Measure gap) = codes "measure" ∷ decimal gap ∷ []
+command_words (BraidWhen gap sign place label) = []
 
 -- whether a site is named `main` and has all strands
 abbrev pub is_main : ℕ → ProgramSite → Bool

@@ -1,10 +1,12 @@
 -- What makes the reading of programs right.
-use Rattle.std.specs.Prelude.{◌≡◌, ℕ, Bool, true, List, length, Some}
+use Rattle.std.specs.Prelude.{◌≡◌, ℕ, Bool, true, List, length, Some, Ok}
 use Rattle.fusion_rules.specs.Names.{AreNames}
 use Rattle.program_text.specs.Program.{Program}
 use Rattle.program_text.specs.Canonical.{canonical_program}
 use Rattle.program_text.specs.Form.{is_comb_program}
 use Rattle.program_text.specs.Reading.{comb_program_of}
+use Rattle.program_text.specs.Grammar.{program_in}
+use Rattle.program_text.specs.WellFormed.{IsProgram}
 
 -- a program that is read has the form, and the text is its canonical one
 abbrev pub CombSound : Type 0
@@ -21,3 +23,7 @@ abbrev pub CombOneText : Type 0
 CombOneText = (names : List (List ℕ)) (fuse : ℕ → ℕ → ℕ → Bool) (p q : Program)
     → AreNames names → is_comb_program fuse (length names) p ≡ true → is_comb_program fuse (length names) q ≡ true
     → canonical_program names p ≡ canonical_program names q → p ≡ q
+
+-- what a text says is well formed
+abbrev pub AllWellFormed : Type 0
+AllWellFormed = (names : List (List ℕ)) (fuse : ℕ → ℕ → ℕ → Bool) (bytes : List ℕ) (p : Program) → program_in names fuse bytes ≡ Ok p → IsProgram fuse (length names) p

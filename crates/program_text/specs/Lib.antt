@@ -4,4 +4,11 @@ pub mod Form
 pub mod Letters
 pub mod Reading
 pub mod Parts
+pub mod Steps
+pub mod Gaps
+pub mod Trees
+pub mod Grammar
+pub mod Answers
+pub mod WellFormed
+pub mod Written
 pub mod Laws

@@ -99,9 +99,9 @@ commands_from before (Counted number text ∷ more) = do
 abbrev pub main_site : ℕ → List Command → ProgramSite
 main_site strands commands = record { name = codes "main"; first = 1; last = strands; commands = commands }
 
--- the program whose one site is `main`, with these commands
+-- the program of version 1 whose one site is `main`, with these commands
 abbrev pub main_program : Labelled → List Command → Program
-main_program start commands = record { start = start; sites = main_site (size start) commands ∷ [] }
+main_program start commands = record { version = 1; start = start; sites = main_site (size start) commands ∷ []; outcomes = [] }
 
 -- the words of the first line, and what is found behind it
 abbrev pub first_line : List Found → Option (List (List ℕ) × List Found)

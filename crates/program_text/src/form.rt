@@ -29,8 +29,22 @@ pub(crate) fn is_admissible(rules: &Rules, tree: &Tree) -> bool
     }
 }
 
+/// Whether every label of a tree is below a count.
+pub(crate) fn labels_below(count: u8, tree: &Tree) -> bool
+    ensures { result ≡ labels_below count (labelled tree.now) }
+{
+    match tree {
+        Tree::Leaf(label) => *label < count,
+        Tree::Node(fork) => {
+            fork.label < count
+                && labels_below(count, &fork.left)
+                && labels_below(count, &fork.right)
+        }
+    }
+}
+
 /// The label at the top.
-fn label(tree: &Tree) -> u8
+pub(crate) fn label(tree: &Tree) -> u8
     ensures { result ≡ label (labelled tree.now) }
 {
     match tree {
@@ -57,6 +71,7 @@ fn is_measured_braid(strands: u8, commands: &[Command]) -> bool
                 }
             }
             Command::Raise { .. } => return false,
+            Command::BraidWhen { .. } => return false,
             Command::Measure { gap } => return is_gap(strands, gap) && i + 1 == commands.len(),
         }
     }

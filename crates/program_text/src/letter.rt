@@ -1,5 +1,5 @@
 ghost use Rattle.std.specs.Prelude.{◌≡◌};
-ghost use Rattle.program_text.specs.Letters.{letter_at};
+ghost use Rattle.program_text.specs.Letters.{letter_at, outcomes_of};
 
 use crate::plan::{Command, Sign};
 
@@ -33,6 +33,16 @@ pub enum Letter {
 }
 
 impl Command {
+    /// How many outcomes this command has: one for a measurement.
+    pub fn outcomes(self) -> u32
+        ensures { result ≡ outcomes_of self }
+    {
+        match self {
+            Command::Measure { .. } => 1,
+            Command::Braid { .. } | Command::Raise { .. } | Command::BraidWhen { .. } => 0,
+        }
+    }
+
     /// The letter of this command, before which there are so many measurements in the text.
     pub fn letter(self, place: u32) -> Letter
         ensures { result ≡ letter_at place self }
@@ -41,6 +51,17 @@ impl Command {
             Command::Braid { gap, sign } => Letter::Crossing { gap, sign },
             Command::Raise { gap } => Letter::Still { gap },
             Command::Measure { gap } => Letter::Charge { gap, place },
+            Command::BraidWhen {
+                gap,
+                sign,
+                place,
+                label,
+            } => Letter::Tested {
+                gap,
+                sign,
+                place,
+                label,
+            },
         }
     }
 }

@@ -94,7 +94,7 @@ fn found_line<'a>(lines: &mut Lines<'a>) -> Option<Line<'a>>
     }
 }
 
-/// The plan with the one site `main`.
+/// The plan of version 1 with the one site `main`.
 fn main_plan(alloc: Global, body: Body) -> Result<Plan, AllocError>
     ensures { IfOk result (λ plan. program_of plan ≡ body_program body) }
 {
@@ -108,5 +108,10 @@ fn main_plan(alloc: Global, body: Body) -> Result<Plan, AllocError>
     };
     let mut sites = Vec::new(alloc);
     sites.push(site)?;
-    Ok(Plan { start: tree, sites })
+    Ok(Plan {
+        version: 1,
+        start: tree,
+        sites,
+        outcomes: Vec::new(alloc),
+    })
 }

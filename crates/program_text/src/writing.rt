@@ -1,9 +1,8 @@
-ghost use Rattle.std.specs.Prelude.{◌≡◌, ◌∷◌, [], true, length, IfOk, codes};
+ghost use Rattle.std.specs.Prelude.{◌≡◌, ◌∷◌, [], IfOk, codes};
 ghost use Rattle.std.specs.Str.{bytes_eq};
 ghost use Rattle.line_text.specs.Spelling.{spaced, spelled};
 ghost use Rattle.line_text.specs.Writing.{Appends, Extends};
 ghost use Rattle.tree_shapes.specs.Views.{labelled};
-ghost use Rattle.program_text.specs.Form.{labels_below};
 ghost use Rattle.program_text.specs.Canonical.{canonical_program, command_words, sign_word, tree_words};
 ghost use Rattle.program_text.specs.Reading.{main_program};
 
@@ -21,22 +20,20 @@ pub(crate) fn is_canonical(
     commands: &[Command],
     bytes: &[u8],
 ) -> Result<bool, AllocError>
-    requires { labels_below (length names.now) (labelled start.now) ≡ true }
     ensures { IfOk result (λ is. is ≡ bytes_eq (canonical_program names.now (main_program (labelled start.now) commands.now)) bytes.now) }
 {
     let mut text = Vec::new(alloc);
-    write_program(names, start, commands, &mut text)?;
+    write_comb(names, start, commands, &mut text)?;
     Ok(text.as_slice() == bytes)
 }
 
 /// Appends the canonical text of the program with the one site `main`.
-fn write_program(
+fn write_comb(
     names: &Names,
     start: &Tree,
     commands: &[Command],
     out: &mut Vec<u8>,
 ) -> Result<(), AllocError>
-    requires { labels_below (length names.now) (labelled start.now) ≡ true }
     ensures { Appends result out.old.items out.new.items (canonical_program names.now (main_program (labelled start.now) commands.now)) }
 {
     let begun = out.len();
@@ -51,7 +48,6 @@ fn extend_program(
     commands: &[Command],
     out: &mut Vec<u8>,
 ) -> Result<(), AllocError>
-    requires { labels_below (length names.now) (labelled start.now) ≡ true }
     ensures { Extends result out.old.items out.new.items (canonical_program names.now (main_program (labelled start.now) commands.now)) }
 {
     write_line(&["program", "1"], out)?;
@@ -63,8 +59,7 @@ fn extend_program(
 }
 
 #[tactic(auto, using(line_text::proofs::WritingLemmas::still_in_front))]
-fn extend_start(names: &Names, start: &Tree, out: &mut Vec<u8>) -> Result<(), AllocError>
-    requires { labels_below (length names.now) (labelled start.now) ≡ true }
+pub(crate) fn extend_start(names: &Names, start: &Tree, out: &mut Vec<u8>) -> Result<(), AllocError>
     ensures { Extends result out.old.items out.new.items (spelled ((codes "start" ∷ tree_words names.now (labelled start.now)) ∷ [])) }
 {
     out.extend_from_slice(b"start ")?;
@@ -76,18 +71,17 @@ fn extend_start(names: &Names, start: &Tree, out: &mut Vec<u8>) -> Result<(), Al
 /// Appends a tree, a node as `(L R):q` with one space.
 #[tactic(auto, using(line_text::proofs::WritingLemmas::still_in_front))]
 fn extend_tree(names: &Names, tree: &Tree, out: &mut Vec<u8>) -> Result<(), AllocError>
-    requires { labels_below (length names.now) (labelled tree.now) ≡ true }
     ensures { Extends result out.old.items out.new.items (spaced (tree_words names.now (labelled tree.now))) }
 {
     match tree {
-        Tree::Leaf(label) => out.extend_from_slice(names.name(*label).as_bytes())?,
+        Tree::Leaf(label) => out.extend_from_slice(names.name_or_empty(*label).as_bytes())?,
         Tree::Node(fork) => {
             out.push(b'(')?;
             extend_tree(names, &fork.left, out)?;
             out.push(b' ')?;
             extend_tree(names, &fork.right, out)?;
             out.extend_from_slice(b"):")?;
-            out.extend_from_slice(names.name(fork.label).as_bytes())?;
+            out.extend_from_slice(names.name_or_empty(fork.label).as_bytes())?;
         }
     }
     Ok(())
@@ -97,6 +91,7 @@ fn extend_command(command: &Command, out: &mut Vec<u8>) -> Result<(), AllocError
     ensures { Extends result out.old.items out.new.items (spelled (command_words command.now ∷ [])) }
 {
     let (verb, gap) = match *command {
+        Command::BraidWhen { .. } => return end_line(out),
         Command::Braid { gap, .. } => (b"braid".as_slice(), gap),
         Command::Raise { gap } => (b"raise".as_slice(), gap),
         Command::Measure { gap } => (b"measure".as_slice(), gap),
@@ -110,7 +105,7 @@ fn extend_command(command: &Command, out: &mut Vec<u8>) -> Result<(), AllocError
     Ok(())
 }
 
-fn sign_word(sign: Sign) -> &'static str
+pub(crate) fn sign_word(sign: Sign) -> &'static str
     ensures { result.now ≡ sign_word sign }
 {
     match sign {

@@ -3,9 +3,9 @@ use Rattle.std.proofs.Common.{◌≡◌, ℕ, ◌+◌, ◌<◌, ◌≤◌, List,
 use Rattle.std.specs.Prelude.{Result, Ok}
 use Rattle.std.specs.List.{AllByRecursion}
 use Rattle.std.proofs.lemmas.List.{length-replicate}
-use Rattle.program_text.specs.Letters.{gap_of, letter_at, letters, outcomes_of, measurements}
+use Rattle.program_text.specs.Letters.{IsTestOf, gap_of, letter_at, letters, outcomes_of, measurements}
 use Rattle.program_text.specs.declared.plan.Command.{Command}
-use Rattle.program_text.specs.declared.plan.Command.TheVariants.{Braid, Raise, Measure}
+use Rattle.program_text.specs.declared.plan.Command.TheVariants.{Braid, Raise, Measure, BraidWhen}
 use Rattle.word_runs.specs.Told.{Told, IsGap}
 use Rattle.word_runs.specs.Runs.{Live, turn_of, run_of, ◌>>>◌, Stops}
 use Rattle.word_runs.specs.Lives.{AreAlike, IsFit}
@@ -18,25 +18,28 @@ pub measurements_more : (c : Command) (cs : List Command) → measurements (c �
 measurements_more (Braid k sign) cs = omega arith
 measurements_more (Raise k) cs = omega arith
 measurements_more (Measure k) cs = omega arith
+measurements_more (BraidWhen k sign place label) cs = omega arith
 
 -- a command has at most one
 pub outcomes_few : (c : Command) → outcomes_of c ≤ 1
 outcomes_few (Braid k sign) = omega arith
 outcomes_few (Raise k) = omega arith
 outcomes_few (Measure k) = omega arith
+outcomes_few (BraidWhen k sign place label) = omega arith
 
 module _ {M T : Type 0} (e : Told M T) where
-  letter_fit : (m p : ℕ) (c : Command) (cs : List Command) → p + measurements (c ∷ cs) ≤ m → IsGap e (gap_of (letter_at p c)) → IsFit e m (letter_at p c)
-  letter_fit m p (Braid k sign) cs low gap = record { gap = gap; place = tt }
-  letter_fit m p (Raise k) cs low gap = record { gap = gap; place = tt }
-  letter_fit m p (Measure k) cs low gap = let here : p < m = omega arith in record { gap = gap; place = here }
+  letter_fit : (m p : ℕ) (c : Command) (cs : List Command) → p + measurements (c ∷ cs) ≤ m → IsTestOf m c → IsGap e (gap_of (letter_at p c)) → IsFit e m (letter_at p c)
+  letter_fit m p (Braid k sign) cs low test gap = record { gap = gap; place = tt }
+  letter_fit m p (Raise k) cs low test gap = record { gap = gap; place = tt }
+  letter_fit m p (Measure k) cs low test gap = let here : p < m = omega arith in record { gap = gap; place = here }
+  letter_fit m p (BraidWhen k sign place label) cs low test gap = record { gap = gap; place = test }
 
-  -- letters at gaps are fit for words of as many places as there are measurements
-  pub letters_fit : (m p : ℕ) (cs : List Command) → p + measurements cs ≤ m → AllByRecursion (λ l. IsGap e (gap_of l)) (letters p cs) → AllByRecursion (IsFit e m) (letters p cs)
-  letters_fit m p [] low gaps = tt
-  letters_fit m p (c ∷ cs) low gaps =
+  -- letters at gaps, with tests of measurements, are fit for words of as many places as there are measurements
+  pub letters_fit : (m p : ℕ) (cs : List Command) → p + measurements cs ≤ m → AllByRecursion (IsTestOf m) cs → AllByRecursion (λ l. IsGap e (gap_of l)) (letters p cs) → AllByRecursion (IsFit e m) (letters p cs)
+  letters_fit m p [] low tests gaps = tt
+  letters_fit m p (c ∷ cs) low tests gaps =
       let more = measurements_more c cs in
-      (letter_fit m p c cs low gaps.0, letters_fit m (p + outcomes_of c) cs (omega (arith, more)) gaps.1)
+      (letter_fit m p c cs low tests.0 gaps.0, letters_fit m (p + outcomes_of c) cs (omega (arith, more)) tests.1 gaps.1)
 
   -- a turn that ends hands on what the turns behind it see
   pub turn_more : (turn place : ℕ) (c : Command) (cs : List Command) (old new : List (Live M)) (stated : Result (List (Live M)) RunStop)

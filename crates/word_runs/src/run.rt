@@ -2,7 +2,7 @@
 
 ghost use Rattle.std.specs.Prelude.{◌≡◌, ◌<◌, ◌^◌, List, length, IfOk, OnOk, replicate, []};
 ghost use Rattle.std.specs.List.{AllByRecursion};
-ghost use Rattle.program_text.specs.Letters.{gap_of, letter_at, letters, outcomes_of, measurements};
+ghost use Rattle.program_text.specs.Letters.{IsTestOf, gap_of, letter_at, letters, outcomes_of, measurements};
 ghost use Rattle.word_runs.specs.Told.{IsGap};
 ghost use Rattle.word_runs.specs.Runs.{run_of, start_word, Runs, Leaves};
 ghost use Rattle.word_runs.specs.Lives.{lives_of, AreOf, AreAlike, IsFit};
@@ -14,16 +14,6 @@ use crate::turn::run_turn;
 use program_text::Command;
 use std::alloc::{AllocError, Global};
 
-/// How many outcomes a command has.
-fn outcomes(command: Command) -> u32
-    ensures { result ≡ outcomes_of command }
-{
-    match command {
-        Command::Measure { .. } => 1,
-        _ => 0,
-    }
-}
-
 /// How many measurements there are.
 fn measurements(commands: &[Command]) -> u32
     requires { length commands.now < 2 ^ 32 }
@@ -31,7 +21,7 @@ fn measurements(commands: &[Command]) -> u32
 {
     let mut count = 0;
     for command in commands {
-        count += outcomes(*command);
+        count += command.outcomes();
     }
     count
 }
@@ -74,6 +64,7 @@ fn run_turns<E: Engine>(
     requires of { AreOf (E.Of engine.now) live.old.items }
     requires alike { AreAlike (E.told engine.now) (measurements commands.now) (lives_of (E.seen engine.now) live.old.items) }
     requires gaps { AllByRecursion (λ l. IsGap (E.told engine.now) (gap_of l)) (letters 0 commands.now) }
+    requires tests { AllByRecursion (IsTestOf (measurements commands.now)) commands.now }
     requires few { length commands.now < 2 ^ 31 }
     ensures of { OnOk result (AreOf (E.Of engine.now) live.new.items) }
     ensures stated { Leaves (lives_of (E.seen engine.now) live.new.items) result (run_of (E.told engine.now) 1 (letters 0 commands.now) (lives_of (E.seen engine.now) live.old.items)) }
@@ -82,7 +73,7 @@ fn run_turns<E: Engine>(
     let mut place = 0;
     for command in commands {
         run_turn(alloc, engine, live, command.letter(place), turn)?;
-        place += outcomes(*command);
+        place += command.outcomes();
         turn += 1;
     }
     Ok(())
@@ -103,6 +94,7 @@ pub fn run_commands<E: Engine>(
 ) -> Result<Vec<LiveWord<E::State>>, RunFault>
     requires of { E.Of engine.now start }
     requires gaps { AllByRecursion (λ l. IsGap (E.told engine.now) (gap_of l)) (letters 0 commands.now) }
+    requires tests { AllByRecursion (IsTestOf (measurements commands.now)) commands.now }
     requires few { length commands.now < 2 ^ 31 }
     ensures of { IfOk result (λ ends. AreOf (E.Of engine.now) ends.items) }
     // It stops exactly where the stated evaluation does.

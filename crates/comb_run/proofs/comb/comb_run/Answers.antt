@@ -1,4 +1,4 @@
-use Rattle.std.proofs.Common.{◌≡◌, ◌∙◌, sym, subst, true, List}
+use Rattle.std.proofs.Common.{◌≡◌, ◌∙◌, ◌&&◌, sym, subst, true, List}
 use Rattle.std.specs.Prelude.{IfOk}
 use Rattle.std.proofs.lemmas.Result.{IfOk-weaker}
 use Rattle.fusion_rules.specs.Fusion.{fuses}
@@ -6,7 +6,7 @@ use Rattle.symbol_table.specs.Category.{draft_symbols}
 use Rattle.tree_shapes.specs.Views.{labelled}
 use Rattle.tree_shapes.specs.Labelled.{size}
 use Rattle.program_text.specs.Program.{program_of}
-use Rattle.program_text.specs.Form.{is_comb_start, are_comb_sites, is_measured_braid}
+use Rattle.program_text.specs.Form.{is_plain, is_comb_start, are_comb_sites, is_measured_braid}
 use Rattle.program_text.specs.declared.plan.Command.{Command}
 use Rattle.comb_run.specs.Comb.{commands_of, outcomes_in}
 use Rattle.comb_laws.specs.Plans.{outcomes_of}
@@ -24,7 +24,8 @@ returns-clause-evaluated g c =
     let tree = labelled plan.start in
     let category = c.args.category.now in
     let s = draft_symbols (g.R.StarRing.ring category.ring) g.R.StarRing.held category in
-    let form = and_true (is_comb_start (fuses category.rules) category.rules.count tree) (are_comb_sites (size tree) (program_of plan).sites) c.requires.form in
+    let plain = and_true (is_plain (program_of plan)) (is_comb_start (fuses category.rules) category.rules.count tree && are_comb_sites (size tree) (program_of plan).sites) c.requires.form in
+    let form = and_true (is_comb_start (fuses category.rules) category.rules.count tree) (are_comb_sites (size tree) (program_of plan).sites) plain.1 in
     let same : c.deref.result.now ≡ commands_of (program_of plan) =
     c.deref.ensures.value ∙ sym (site_commands (size tree) plan.sites.items c.index.result.now form.1 c.index.ensures) in
     subst (λ (cs : List Command). Runs outcomes_in c.comb_rows.result (evaluation_of s tree cs)) same c.comb_rows.ensures
@@ -35,7 +36,8 @@ returns-clause-rows g c =
     let tree = labelled plan.start in
     let category = c.args.category.now in
     let s = draft_symbols (g.R.StarRing.ring category.ring) g.R.StarRing.held category in
-    let form = and_true (is_comb_start (fuses category.rules) category.rules.count tree) (are_comb_sites (size tree) (program_of plan).sites) c.requires.form in
+    let plain = and_true (is_plain (program_of plan)) (is_comb_start (fuses category.rules) category.rules.count tree && are_comb_sites (size tree) (program_of plan).sites) c.requires.form in
+    let form = and_true (is_comb_start (fuses category.rules) category.rules.count tree) (are_comb_sites (size tree) (program_of plan).sites) plain.1 in
     let start = comb_start (fuses category.rules) category.rules.count tree form.0 in
     let same : c.deref.result.now ≡ commands_of (program_of plan) =
     c.deref.ensures.value ∙ sym (site_commands (size tree) plan.sites.items c.index.result.now form.1 c.index.ensures) in

@@ -8,13 +8,17 @@ use Rattle.word_runs.specs.declared.fault.RunFault.TheVariants.{Stop}
 use Rattle.word_runs.specs.declared.fault.RunStop.TheVariants.{Overflow}
 use Rattle.comb_run.specs.Evaluated.{comb_told, rows_at, rest_of}
 use Rattle.comb_run.specs.States.{state_of, rows_of}
-use Rattle.comb_run.proofs.EndLemmas.{length-letters, form_gaps, rest_ok, rest_late, stops_there}
+use Rattle.comb_run.proofs.EndLemmas.{length-letters, form_gaps, form_tests, rest_ok, rest_late, stops_there}
 use Rattle.comb_run.proofs.comb.end_rows.Goals as goal
 
 pub run_commands-requires-clause-gaps : goal.run_commands-requires-clause-gaps
 run_commands-requires-clause-gaps g c =
     let s = draft_symbols (g.R.StarRing.ring c.args.category.now.ring) g.R.StarRing.held c.args.category.now in
     form_gaps s c.len.result 0 c.args.commands.now (ap (λ n. is_measured_braid n c.args.commands.now) c.len.ensures.value ∙ c.requires.form)
+
+pub run_commands-requires-clause-tests : goal.run_commands-requires-clause-tests
+run_commands-requires-clause-tests g c =
+    form_tests c.len.result (measurements c.args.commands.now) c.args.commands.now (ap (λ n. is_measured_braid n c.args.commands.now) c.len.ensures.value ∙ c.requires.form)
 
 pub returns-in-Ok : goal.returns-in-Ok
 returns-in-Ok g c =

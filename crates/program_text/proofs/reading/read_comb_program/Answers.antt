@@ -31,11 +31,6 @@ returns-then-not-has_comb_form c =
     sym (unformed c.args.names.now c.args.rules.now.count (fuses c.args.rules.now) c.args.bytes.now (body_program c.in-Some.body) read
     (form_is c.args.names.now c.args.rules.now.count (fuses c.args.rules.now) c.in-Some.body (reading_of 0 c.args.bytes.now).ahead c.requires.counts read ∙ sym c.has_comb_form.ensures ∙ c.if-not-has_comb_form.true))
 
-pub is_canonical-requires : goal.is_canonical-requires
-is_canonical-requires c =
-    let read : candidate c.args.names.now (reading_of 0 c.args.bytes.now).ahead ≡ Some (body_program c.in-Some.body) = sym c.in_ok-body.ensures ∙ ap (option_map body_program) c.in-Some.is in
-    (candidate_start c.args.names.now (reading_of 0 c.args.bytes.now).ahead (body_program c.in-Some.body) read).below
-
 pub returns-then-not-branch : goal.returns-then-not-branch
 returns-then-not-branch c =
     let read : candidate c.args.names.now (reading_of 0 c.args.bytes.now).ahead ≡ Some (body_program c.in-Some.body) = sym c.in_ok-body.ensures ∙ ap (option_map body_program) c.in-Some.is in

@@ -17,4 +17,4 @@ returns-in_ok-extend_from_slice-in-Node-2 t c = rw (c.in-Node.is)
     (c.in_ok-extend_tree-in-Node-2.ensures ∙ ap (λ (f : Fork). c.push-in-Node.new.self.items ++ spaced (tree_words c.args.names.now (labelled f.right))) c.deref-in-Node.ensures)
     c.in_ok-extend_from_slice-in-Node.ensures.items
     (c.in_ok-extend_from_slice-in-Node-2.ensures.items ∙ ap (λ w. c.extend_from_slice-in-Node.new.self.items ++ w)
-    (c.as_bytes-in-Node.ensures.value ∙ c.name-in-Node.ensures ∙ ap (λ (f : Fork). name_of c.args.names.now f.label) c.deref-in-Node-2.ensures)))
+    (c.as_bytes-in-Node.ensures.value ∙ c.name_or_empty-in-Node.ensures ∙ ap (λ (f : Fork). name_of c.args.names.now f.label) c.deref-in-Node-2.ensures)))

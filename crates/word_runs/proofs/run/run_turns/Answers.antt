@@ -16,7 +16,7 @@ loop-command-init g c =
       place = omega arith;
       of = c.requires.of;
       alike = c.requires.alike;
-      fit = letters_fit (g.E.Engine.told c.args.engine.now) (measurements c.args.commands.now) 0 c.args.commands.now (omega arith) c.requires.gaps;
+      fit = letters_fit (g.E.Engine.told c.args.engine.now) (measurements c.args.commands.now) 0 c.args.commands.now (omega arith) c.requires.tests c.requires.gaps;
       left = refl;
     }
 
