@@ -59,12 +59,12 @@ module _ (names : List (List ℕ)) (are : AreNames names) (version : ℕ) (start
   unfolding command_of_line
   measure_again s front k None e at next =
       let all : before_of (measurements (front ++ Measure k ∷ [])) os ≡ s.outcomes =
-          ap (λ n. before_of n os) (measurements_push front (Measure k)) ∙ one_more (measurements front) os sorted ∙ ap (λ o. before_of (measurements front) os ++ named_at (measurements front) o) e ∙ append-nil (before_of (measurements front) os) ∙ sym at.outcomes in
+      ap (λ n. before_of n os) (measurements_push front (Measure k)) ∙ one_more (measurements front) os sorted ∙ ap (λ o. before_of (measurements front) os ++ named_at (measurements front) o) e ∙ append-nil (before_of (measurements front) os) ∙ sym at.outcomes in
       rw (number_again k next.small, next.inside, next.room) (ap (λ l. Ok (with_command s (Measure k) l)) (sym all))
   measure_again s front k (Some name) e at next =
       let all : before_of (measurements (front ++ Measure k ∷ [])) os ≡ s.outcomes ++ record { name = name; place = s.measured } ∷ [] =
-          ap (λ n. before_of n os) (measurements_push front (Measure k)) ∙ one_more (measurements front) os sorted ∙ ap (λ o. before_of (measurements front) os ++ named_at (measurements front) o) e
-          ∙ ap (λ l. l ++ record { name = name; place = measurements front } ∷ []) (sym at.outcomes) ∙ ap (λ n. s.outcomes ++ record { name = name; place = n } ∷ []) (sym at.measured) in
+      ap (λ n. before_of n os) (measurements_push front (Measure k)) ∙ one_more (measurements front) os sorted ∙ ap (λ o. before_of (measurements front) os ++ named_at (measurements front) o) e
+      ∙ ap (λ l. l ++ record { name = name; place = measurements front } ∷ []) (sym at.outcomes) ∙ ap (λ n. s.outcomes ++ record { name = name; place = n } ∷ []) (sym at.measured) in
       let later : has_names version ≡ true = (let v = second (measurements front) name e in grind (arith, nat_tests)) in
       let new : is_given s.outcomes name ≡ false = ap (λ l. is_given l name) at.outcomes ∙ name_new (measurements front) os name sorted e in
       rw (later, number_again k next.small, next.inside, name_is (measurements front) os name sorted e, new, next.room) (ap (λ l. Ok (with_command s (Measure k) l)) (sym all))
