@@ -7,6 +7,8 @@
 #![tactic(auto)]
 
 mod engine;
+mod run;
 mod steps;
 
 pub use engine::TreeEngine;
+pub use run::run_states;
