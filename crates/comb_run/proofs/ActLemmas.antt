@@ -13,7 +13,8 @@ use Rattle.comb_run.specs.Evaluated.{KernelAt, acted_step, acted_at, acted_fits}
 use Rattle.comb_run.specs.Entries.{entry_at, vector_of, targets_of, AreEntries}
 use Rattle.amp_store.specs.Gathered.{kept_of, among, gathered}
 use Rattle.comb_run.proofs.Gather.{gathered_all, fits_all, vector_known}
-use Rattle.comb_run.proofs.PathLemmas.{among_paths, one_fails, all_pass}
+use Rattle.amp_store.proofs.AmongLemmas.{one_fails, all_pass}
+use Rattle.comb_run.proofs.PathLemmas.{among_paths}
 
 -- what is kept is there and isn't zero
 pub kept_some : {E : Type 0} (h : Held E) (p v : E) → kept_of h p ≡ Some v → (v ≡ p) × (h.is_zero p ≡ false)

@@ -17,7 +17,8 @@ use Rattle.comb_run.specs.Evaluated.{State, is_nought, projected_fits, part_of, 
 use Rattle.comb_run.specs.States.{state_of}
 use Rattle.comb_run.specs.declared.state.CombState.{CombState}
 use Rattle.comb_run.proofs.EntryLemmas.{first_there}
-use Rattle.comb_run.proofs.PathLemmas.{among_paths, one_fails, all_pass}
+use Rattle.amp_store.proofs.AmongLemmas.{one_fails, all_pass}
+use Rattle.comb_run.proofs.PathLemmas.{among_paths}
 
 module _ {E : Type 0} (c : Symbols E) (laws : RingLaws c.ring c.held) (strands : List ℕ) where
   -- no entries are the vector that is zero everywhere

@@ -23,7 +23,10 @@ use Rattle.amp_store.specs.Gathered.{among}
 use Rattle.comb_run.proofs.EntryLemmas.{lookup_is}
 use Rattle.comb_laws.proofs.PathFacts.{same_path}
 use Rattle.comb_run.proofs.PathLemmas.{among_paths}
-use Rattle.comb_run.proofs.OrderLemmas.{path_cmp, put_less, sorted_paths, sorted_filter, same_in_order}
+use Rattle.amp_store.specs.Amplitudes.{key_cmp}
+use Rattle.amp_store.proofs.AmongLemmas.{and_false_right, any_turned, filter_any}
+use Rattle.amp_store.proofs.OrderLemmas.{put_less, sorted_filter, same_in_order}
+use Rattle.comb_run.proofs.OrderLemmas.{sorted_paths}
 
 -- a step for an entry
 abbrev pub entry_step : {E : Type 0} → Symbols E → List ℕ → ArrayVec ℕ × E → E → Option E
@@ -45,16 +48,6 @@ map_map : {A B C : Type 0} (f : B → C) (g : A → B) (xs : List A) → map f (
 map_map f g [] = refl
 map_map f g (x ∷ xs) = ap (λ l. f (g x) ∷ l) (map_map f g xs)
 
-any_turned : (q : Path) (xs : List Path) → list_any (λ k. bytes_eq q k) xs ≡ among q xs
-any_turned q [] = refl
-any_turned q (x ∷ xs) = λ j. turned (bytes_eq q x) (bytes_eq x q) refl refl j || any_turned q xs j
-  where
-    turned : (a b : Bool) → bytes_eq q x ≡ a → bytes_eq x q ≡ b → a ≡ b
-    turned true true e d = refl
-    turned false false e d = refl
-    turned true false e d = sym ((bytes_eq-Decides x q).1 (sym (same_path q x e))) ∙ d
-    turned false true e d = sym e ∙ (bytes_eq-Decides q x).1 (sym (same_path x q d))
-
 keys_any : {E : Type 0} (strands : List ℕ) (es : List (ArrayVec ℕ × E)) (q : Path) → list_any (λ k. bytes_eq q k) (paths_of strands (keys_of es)) ≡ is_some (entry_at strands es q)
 keys_any strands [] q = refl
 keys_any {E} strands (e ∷ es) q = pick (bytes_eq q (path_of strands e.0.items)) (keys_any strands es q)
@@ -62,24 +55,6 @@ keys_any {E} strands (e ∷ es) q = pick (bytes_eq q (path_of strands e.0.items)
     pick : (b : Bool) → list_any (λ k. bytes_eq q k) (paths_of strands (keys_of es)) ≡ is_some (entry_at strands es q) → (b || list_any (λ k. bytes_eq q k) (paths_of strands (keys_of es))) ≡ is_some (if b then Some e.1 else entry_at strands es q)
     pick true h = refl
     pick false h = h
-
-and_false_right : (a : Bool) → (a && false) ≡ false
-and_false_right true = refl
-and_false_right false = refl
-
--- a path is among those that pass a test where it is among all and passes
-filter_any : (test : Path → Bool) (q : Path) (xs : List Path) → list_any (λ k. bytes_eq q k) (filter test xs) ≡ (list_any (λ k. bytes_eq q k) xs && test q)
-filter_any test q [] = refl
-filter_any test q (x ∷ xs) = pick (test x) (bytes_eq q x) refl refl (filter_any test q xs)
-  where
-    pick : (t b : Bool) → test x ≡ t → bytes_eq q x ≡ b → list_any (λ k. bytes_eq q k) (filter test xs) ≡ (list_any (λ k. bytes_eq q k) xs && test q)
-        → list_any (λ k. bytes_eq q k) (if t then x ∷ filter test xs else filter test xs) ≡ ((b || list_any (λ k. bytes_eq q k) xs) && test q)
-    pick true true passes same rest = rw same (sym (ap test (same_path q x same) ∙ passes))
-    pick true false passes other rest = rw other rest
-    pick false true fails same rest =
-        rest ∙ (ap (λ b. list_any (λ k. bytes_eq q k) xs && b) (ap test (same_path q x same) ∙ fails)
-        ∙ (and_false_right (list_any (λ k. bytes_eq q k) xs) ∙ sym (ap test (same_path q x same) ∙ fails)))
-    pick false false fails other rest = rest
 
 module _ {E : Type 0} (c : Symbols E) (laws : RingLaws c.ring c.held) (strands : List ℕ) where
   abbrev counts : Vector E → Path → Bool
@@ -109,7 +84,7 @@ module _ {E : Type 0} (c : Symbols E) (laws : RingLaws c.ring c.held) (strands :
         pick (Some v) e =
             λ j. (any_turned q (paths c strands) ∙ among_paths c strands q (are.paths q v e)) j && not (are.nonzero q v e j)
 
-    keys_are : IsStrictlySortedBy path_cmp (paths_of strands (keys_of es)) → filter (counts (vector_of c.ring strands es)) (paths c strands) ≡ paths_of strands (keys_of es)
+    keys_are : IsStrictlySortedBy key_cmp (paths_of strands (keys_of es)) → filter (counts (vector_of c.ring strands es)) (paths c strands) ≡ paths_of strands (keys_of es)
     keys_are sorted =
         same_in_order (filter (counts (vector_of c.ring strands es)) (paths c strands)) (paths_of strands (keys_of es))
         (sorted_filter (counts (vector_of c.ring strands es)) (paths c strands) (sorted_paths c strands)) sorted same_any
@@ -122,7 +97,7 @@ module _ {E : Type 0} (c : Symbols E) (laws : RingLaws c.ring c.held) (strands :
         (λ t. rw (there, are.nonzero (path_of strands e.0.items) e.1 there) refl, told xs found.1)
 
     -- the weight is evaluated over the entries
-    pub weight_is : IsStrictlySortedBy path_cmp (paths_of strands (keys_of es))
+    pub weight_is : IsStrictlySortedBy key_cmp (paths_of strands (keys_of es))
         → All (λ (e : ArrayVec ℕ × E). lookup (is_at (λ (k : ArrayVec ℕ). slice_cmp nat_cmp e.0.items k.items)) es ≡ Some e.1) es
         → weight_at c strands (vector_of c.ring strands es) ≡ steps_over (entry_step c strands) es c.ring.zero
     weight_is sorted found =
@@ -144,16 +119,16 @@ entries_are {E} c strands es are (e ∷ xs) found =
     (record { path = are.paths (path_of strands e.0.items) e.1 there; member = are.members (path_of strands e.0.items) e.1 there }, entries_are c strands es are xs found.1)
 
 -- paths over the strands are in the order of their keys
-paths_less : (strands a b : List ℕ) → path_cmp a b ≡ Less → path_cmp (path_of strands a) (path_of strands b) ≡ Less
+paths_less : (strands a b : List ℕ) → key_cmp a b ≡ Less → key_cmp (path_of strands a) (path_of strands b) ≡ Less
 paths_less [] a b h = put_less 0 a b h
 paths_less (s ∷ strands) a b h = put_less 0 (s ∷ a) (s ∷ b) (put_less s a b h)
 
-all_less : (strands : List ℕ) (x : ArrayVec ℕ) (keys : List (ArrayVec ℕ)) → AllByRecursion (λ (p : ArrayVec ℕ). path_cmp x.items p.items ≡ Less) keys → AllByRecursion (λ y. path_cmp (path_of strands x.items) y ≡ Less) (paths_of strands keys)
+all_less : (strands : List ℕ) (x : ArrayVec ℕ) (keys : List (ArrayVec ℕ)) → AllByRecursion (λ (p : ArrayVec ℕ). key_cmp x.items p.items ≡ Less) keys → AllByRecursion (λ y. key_cmp (path_of strands x.items) y ≡ Less) (paths_of strands keys)
 all_less strands x [] all = tt
 all_less strands x (p ∷ keys) all = (paths_less strands x.items p.items all.0, all_less strands x keys all.1)
 
 -- keys in order are paths in order
-sorted_items : (strands : List ℕ) (keys : List (ArrayVec ℕ)) → IsStrictlySortedBy (λ (a b : ArrayVec ℕ). slice_cmp nat_cmp a.items b.items) keys → IsStrictlySortedBy path_cmp (paths_of strands keys)
+sorted_items : (strands : List ℕ) (keys : List (ArrayVec ℕ)) → IsStrictlySortedBy (λ (a b : ArrayVec ℕ). slice_cmp nat_cmp a.items b.items) keys → IsStrictlySortedBy key_cmp (paths_of strands keys)
 unfolding IsStrictlySortedBy
 sorted_items strands [] s = tt
 sorted_items strands (x ∷ xs) s = (all_less strands x xs s.0, sorted_items strands xs s.1)
