@@ -1,0 +1,4 @@
+pub mod Meaning
+pub mod Schedules
+pub mod Timely
+pub mod Turns
