@@ -1,5 +1,5 @@
 -- The live words at the end of a run, and the word before its first turn.
-use Rattle.std.proofs.Common.{◌≡◌, ℕ, ◌<◌, ◌≤◌, Bool, true, false, inl, inr, List, [], ◌∷◌, length, replicate, refl, ap, sym, subst, ◌∙◌, arith}
+use Rattle.std.proofs.Common.{◌≡◌, ℕ, ◌<◌, ◌≤◌, Bool, true, inl, inr, List, [], ◌∷◌, length, replicate, refl, ap, sym, subst, ◌∙◌, arith}
 use Rattle.std.specs.Prelude.{Ok, nat_lt}
 use Rattle.std.specs.List.{AllByRecursion}
 use Rattle.std.proofs.Math.ListN.{get_or-eq_default}
@@ -62,11 +62,11 @@ module _ (count m : ℕ) (known : List ℕ) (cover : (p : ℕ) → is_known know
 module _ {M T V : Type 0} (e : Told M T) (shapes : AreShapes e) (count : ℕ) (act : Acts V) (Good : V → Type 0) (nought : V → Bool) (Stands : M → V → Type 0)
     (faithful : IsFaithful e count act Good nought Stands) where
   -- before the first turn
-  start_living : (m : ℕ) (s : M) (v : V) → Good v → Stands s v → nought v ≡ false → AreLiving count m Good nought Stands [] (λ w. v) (start_word m s)
-  start_living m s v good stands some = record {
+  start_living : (m : ℕ) (s : M) (v : V) → Good v → Stands s v → AreLiving count m Good nought Stands [] (λ w. v) (start_word m s)
+  start_living m s v good stands = record {
     good = λ w. good;
     reads = λ w w' same. refl;
-    sound = ((zeros_are count m, stands, some), tt);
+    sound = ((zeros_are count m, stands), tt);
     complete = λ w is n. inl (no_labels count m w is);
     distinct = (tt, tt);
   }
@@ -77,23 +77,23 @@ module _ {M T V : Type 0} (e : Told M T) (shapes : AreShapes e) (count : ℕ) (a
 
   -- letters in time that measure each place once end with the words whose vector isn't zero
   pub ends_are : (m : ℕ) (ls : List Letter) (s : M) (v : V) (live : List (Live M)) → AllByRecursion (λ l. IsGap e (gap_of l)) ls → MeasureEach m ls → is_timely [] ls ≡ true
-      → Good v → Stands s v → nought v ≡ false → run_of e 1 ls (start_word m s) ≡ Ok live → AreEnds count m act nought Stands ls v live
-  ends_are m ls s v live gaps each timely good stands some ends =
+      → Good v → Stands s v → run_of e 1 ls (start_word m s) ≡ Ok live → AreEnds count m act nought Stands ls v live
+  ends_are m ls s v live gaps each timely good stands ends =
       let known = known_after [] ls in
       let fit = all_fit m ls gaps (places_below m ls [] timely (λ p on. true_lt p m (sym (each.places p) ∙ on))) in
-      let living = run_means e shapes count m act Good nought Stands faithful 1 ls [] (λ w. v) (start_word m s) live fit timely each.once ends (e.shape s, (refl, tt)) (start_living m s v good stands some) in
+      let living = run_means e shapes count m act Good nought Stands faithful 1 ls [] (λ w. v) (start_word m s) live fit timely each.once ends (e.shape s, (refl, tt)) (start_living m s v good stands) in
       record {
-        sound = all_map (λ l. IsWord count m known l.word × Stands l.state (word_state act l.word ls v) × (nought (word_state act l.word ls v) ≡ false))
-            (λ l. IsFull count m l.word × Stands l.state (word_state act l.word ls v) × (nought (word_state act l.word ls v) ≡ false))
-            live (λ l p. (word_full count m known each.places l.word p.0, p.1, p.2)) living.sound;
+        sound = all_map (λ l. IsWord count m known l.word × Stands l.state (word_state act l.word ls v))
+            (λ l. IsFull count m l.word × Stands l.state (word_state act l.word ls v))
+            live (λ l p. (word_full count m known each.places l.word p.0, p.1)) living.sound;
         complete = λ w is n. living.complete w (full_word count m known each.places w is) n;
         distinct = living.distinct;
       }
 
   -- in the order of the text
   pub text_ends : TextEnds e count act Good nought Stands
-  text_ends commands s v live gaps timely good stands some ends =
-      ends_are (measurements commands) (letters 0 commands) s v live gaps (text_measures_each commands) timely good stands some ends
+  text_ends commands s v live gaps timely good stands ends =
+      ends_are (measurements commands) (letters 0 commands) s v live gaps (text_measures_each commands) timely good stands ends
 
   within_gap : (r : Range) (l : Letter) → IsWithin e.strands r l → IsGap e (gap_of l)
   within_gap r l is = record { low = is.above; high = is.below }
@@ -107,18 +107,18 @@ module _ {M T V : Type 0} (e : Told M T) (shapes : AreShapes e) (count : ℕ) (a
 
   -- and of any schedule
   pub schedule_ends : CommuteFar e.strands act Good → ScheduleEnds e count act Good nought Stands
-  schedule_ends far ranges sites schedule s v live apart legal timely good stands some ends =
+  schedule_ends far ranges sites schedule s v live apart legal timely good stands ends =
       let m = measurements (in_text sites) in
       let site_ls = site_letters 0 sites in
       let ls = turns site_ls schedule in
       let text = letters 0 (in_text sites) in
       let gaps = all_turns (λ l. IsGap e (gap_of l)) schedule site_ls (takes_all schedule site_ls legal) (all_gaps ranges site_ls apart) in
-      let are = ends_are m ls s v live gaps (schedules_measure_each sites schedule legal) timely good stands some ends in
+      let are = ends_are m ls s v live gaps (schedules_measure_each sites schedule legal) timely good stands ends in
       let same = λ (w : List ℕ). every_schedule e.strands act Good far ranges site_ls schedule w v apart legal good ∙ ap (λ t. word_state act w t v) (letters_of_text 0 sites) in
       record {
-        sound = all_map (λ l. IsFull count m l.word × Stands l.state (word_state act l.word ls v) × (nought (word_state act l.word ls v) ≡ false))
-            (λ l. IsFull count m l.word × Stands l.state (word_state act l.word text v) × (nought (word_state act l.word text v) ≡ false))
-            live (λ l p. (p.0, subst (Stands l.state) (same l.word) p.1, ap nought (sym (same l.word)) ∙ p.2)) are.sound;
+        sound = all_map (λ l. IsFull count m l.word × Stands l.state (word_state act l.word ls v))
+            (λ l. IsFull count m l.word × Stands l.state (word_state act l.word text v))
+            live (λ l p. (p.0, subst (Stands l.state) (same l.word) p.1)) are.sound;
         complete = λ w is n. are.complete w is (ap nought (same w) ∙ n);
         distinct = are.distinct;
       }

@@ -9,3 +9,6 @@ pub mod Counts
 pub mod TextOrder
 pub mod Apart
 pub mod LetterPlaces
+pub mod ExactLemmas
+pub mod OrderLemmas
+pub mod RowLemmas

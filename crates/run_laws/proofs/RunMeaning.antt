@@ -86,7 +86,7 @@ module _ {M T V : Type 0} (e : Told M T) (shapes : AreShapes e) (count m : ℕ) 
       let ready = settle_means turn k known vector old first.0 fit.gap first.1 alike living in
       let is = fitted e turn new (split_words e k p first.0) first.2 in (
         (ready.0.0, split_shape e k p shapes ready.0.0 first.0 new is ready.0.1),
-        split_means e count m act Good nought Stands faithful k p fit.gap known vector first.0 new fit.place fresh.0 ready.2 is ready.1,
+        split_means e shapes count m act Good nought Stands faithful k p fit.gap known vector first.0 new fit.place fresh.0 ready.2 is ready.1,
       )
 
   -- the letters behind a first one

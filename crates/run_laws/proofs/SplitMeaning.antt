@@ -6,7 +6,7 @@ use Rattle.std.proofs.lemmas.List.{map-append, get_or-set_same}
 use Rattle.ring_laws.proofs.StatedLemmas.{some_inj}
 use Rattle.comb_laws.specs.Words.{Acts}
 use Rattle.comb_laws.specs.declared.operator.Operator.TheVariants.{Project}
-use Rattle.word_runs.specs.Told.{Told, IsGap}
+use Rattle.word_runs.specs.Told.{Told, IsGap, AreShapes}
 use Rattle.word_runs.specs.Runs.{Live, outcomes_of, split_word, split_words}
 use Rattle.word_runs.proofs.EachLemmas.{all_append}
 use Rattle.word_runs.proofs.SplitLemmas.{joined_parts, made_of}
@@ -14,9 +14,9 @@ use Rattle.run_laws.specs.Timely.{is_known}
 use Rattle.run_laws.specs.Meaning.{IsIn, AreDistinct, ArePartsOf, IsFaithful, IsWord, Agree, words_of, AreLiving}
 use Rattle.run_laws.proofs.PlaceLemmas.{set_known, unset, set_back, set_agrees, set_again, known_here, known_more}
 use Rattle.run_laws.proofs.DistinctLemmas.{in_map, in_first, in_second, distinct_map, distinct_flat, map_flat}
-use Rattle.run_laws.proofs.StepMeaning.{all_both}
+use Rattle.run_laws.proofs.StepMeaning.{all_both, act_some}
 
-module _ {M T V : Type 0} (e : Told M T) (count m : ℕ) (act : Acts V) (Good : V → Type 0) (nought : V → Bool) (Stands : M → V → Type 0)
+module _ {M T V : Type 0} (e : Told M T) (shapes : AreShapes e) (count m : ℕ) (act : Acts V) (Good : V → Type 0) (nought : V → Bool) (Stands : M → V → Type 0)
     (faithful : IsFaithful e count act Good nought Stands) (k p : ℕ) (gap : IsGap e k) where
   -- the parts of a word's state, none where an item doesn't fit
   abbrev parts_at : Live M → List (ℕ × M)
@@ -52,10 +52,10 @@ module _ {M T V : Type 0} (e : Told M T) (count m : ℕ) (act : Acts V) (Good : 
     measured w = act k (Project (slice_index w p)) (vector w)
 
     abbrev Old : Live M → Type 0
-    Old l = IsWord count m known l.word × Stands l.state (vector l.word) × (nought (vector l.word) ≡ false)
+    Old l = IsWord count m known l.word × Stands l.state (vector l.word)
 
     abbrev New : Live M → Type 0
-    New l = IsWord count m (p ∷ known) l.word × Stands l.state (measured l.word) × (nought (measured l.word) ≡ false)
+    New l = IsWord count m (p ∷ known) l.word × Stands l.state (measured l.word)
 
     -- the parts of a word
     parts_of : (l : Live M) → IsReady l → Old l → ArePartsOf count (λ q. act k (Project q) (vector l.word)) nought Stands (parts_at l)
@@ -68,7 +68,7 @@ module _ {M T V : Type 0} (e : Told M T) (count m : ℕ) (act : Acts V) (Good : 
         λ i. act k (Project (get_or-set_same w p q 0 inside i)) (reads (slice_set w p q) w (set_agrees count m p known below fresh w q) i)
 
     outcomes_new : (w : List ℕ) → IsWord count m known w → (parts : List (ℕ × M))
-        → AllByRecursion (λ part. (part.0 < count) × Stands part.1 (act k (Project part.0) (vector w)) × (nought (act k (Project part.0) (vector w)) ≡ false)) parts
+        → AllByRecursion (λ part. (part.0 < count) × Stands part.1 (act k (Project part.0) (vector w))) parts
         → AllByRecursion New (outcomes_of p w parts)
     outcomes_new w is [] h = tt
     outcomes_new w is (x ∷ parts) h =
@@ -76,7 +76,6 @@ module _ {M T V : Type 0} (e : Told M T) (count m : ℕ) (act : Acts V) (Good : 
           (
             set_known count m p known below fresh w x.0 h.0.0 is,
             subst (Stands x.1) (sym there) h.0.1,
-            ap nought there ∙ h.0.2,
           ),
           outcomes_new w is parts h.1,
         )
@@ -127,13 +126,6 @@ module _ {M T V : Type 0} (e : Told M T) (count m : ℕ) (act : Acts V) (Good : 
         (λ l o. subst (AllByRecursion (λ v. slice_set v p 0 ≡ l.word)) (sym (words_at l.word (parts_at l))) (told_back l.word o.1.0 (map (λ part. part.0) (parts_at l))))
         live (all_both IsReady Old live ready h) d)
 
-    project_some : (q : ℕ) (v : V) → Good v → nought (act k (Project q) v) ≡ false → nought v ≡ false
-    project_some q v is some = by (nought v) refl
-      where
-        by : (b : Bool) → nought v ≡ b → nought v ≡ false
-        by true none = absurd (let off = faithful.project_nought k q v gap is none in cc)
-        by false none = none
-
     complete_split : (live : List (Live M)) → AllByRecursion IsReady live → AreLiving count m Good nought Stands known vector live
         → (w : List ℕ) → IsWord count m (p ∷ known) w → nought (measured w) ≡ false → IsIn w (words_of (flat_map made_at live))
     complete_split live ready living w is some =
@@ -142,7 +134,7 @@ module _ {M T V : Type 0} (e : Told M T) (count m : ℕ) (act : Acts V) (Good : 
         subst (λ v. IsIn v (words_of (flat_map made_at live))) (set_again count m p known below fresh w)
         (in_split (slice_set w p 0) (slice_index w p) (is.label p below (known_here p known)) there live ready living.sound
         (living.complete (slice_set w p 0) (unset count m p known below fresh w is)
-        (project_some (slice_index w p) (vector (slice_set w p 0)) (good (slice_set w p 0)) there)))
+        (act_some e shapes count m act Good nought Stands faithful k (Project (slice_index w p)) (vector (slice_set w p 0)) gap (good (slice_set w p 0)) there)))
 
   -- a measurement at a place that isn't measured yet
   pub split_means : (known : List ℕ) (vector : List ℕ → V) (old new : List (Live M)) → p < m → is_known known p ≡ false

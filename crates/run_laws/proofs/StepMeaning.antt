@@ -4,6 +4,7 @@ use Rattle.std.specs.Prelude.{Ok, if◌then◌else◌}
 use Rattle.std.specs.List.{AllByRecursion}
 use Rattle.ring_laws.proofs.StatedLemmas.{some_inj}
 use Rattle.comb_laws.specs.Words.{Acts, acted_by}
+use Rattle.comb_laws.specs.declared.operator.Operator.{Operator}
 use Rattle.comb_laws.specs.declared.operator.Operator.TheVariants as operator
 use Rattle.program_text.specs.declared.plan.Sign.{Sign}
 use Rattle.word_runs.specs.Told.{Told, IsGap, AreShapes}
@@ -32,9 +33,17 @@ module _ {M T V : Type 0} (e : Told M T) (shapes : AreShapes e) (count m : ℕ) 
   abbrev pub Living : List ℕ → (List ℕ → V) → List (Live M) → Type 0
   Living known vector live = AreLiving count m Good nought Stands known vector live
 
+  -- what an operator makes something of is not zero
+  pub act_some : (k : ℕ) (o : Operator) (v : V) → IsGap e k → Good v → nought (act k o v) ≡ false → nought v ≡ false
+  act_some k o v gap good some = by (nought v) refl
+    where
+      by : (b : Bool) → nought v ≡ b → nought v ≡ false
+      by true none = absurd (let off = faithful.nothing k o v gap good none in cc)
+      by false none = none
+
   -- what holds of a live word
   abbrev pub Right : List ℕ → (List ℕ → V) → Live M → Type 0
-  Right known vector l = IsWord count m known l.word × Stands l.state (vector l.word) × (nought (vector l.word) ≡ false)
+  Right known vector l = IsWord count m known l.word × Stands l.state (vector l.word)
 
   -- a step keeps the words
   same_words : (test : Option Test) (step : Step) (old new : List (Live M)) → step_words e test step old ≡ Some new → words_of new ≡ words_of old
@@ -54,7 +63,6 @@ module _ {M T V : Type 0} (e : Told M T) (shapes : AreShapes e) (count m : ℕ) 
             let by = stepped_by l n true (e.stepped (Raise k) l.state) s in (
               subst (IsWord count m known) (sym by.0) p.0,
               faithful.raise k l.state n.state (vector n.word) gap (living.good n.word) by.1 (subst (λ w. Stands l.state (vector w)) (sym by.0) p.1),
-              ap (λ w. nought (vector w)) by.0 ∙ p.2,
             ))
             old new h living.sound;
         complete = λ w is n. subst (IsIn w) (sym words) (living.complete w is n);
@@ -81,14 +89,12 @@ module _ {M T V : Type 0} (e : Told M T) (shapes : AreShapes e) (count m : ℕ) 
   tested k sign test vector w = exchanged k sign (passes test w) (vector w)
 
   exchange_one : (k : ℕ) (sign : Sign) (b : Bool) (l n : Live M) (v : V) → IsGap e k → e.is_pair k (e.shape l.state) ≡ true → Good v
-      → SteppedBy b (e.stepped (Exchange k sign) l.state) l n → Stands l.state v → nought v ≡ false
-      → Stands n.state (exchanged k sign b v) × (nought (exchanged k sign b v) ≡ false)
-  exchange_one k sign true l n v gap pair good by s some =
-      (faithful.exchange k sign l.state n.state v gap good pair by.1 s, faithful.exchange_nought k sign v gap good ∙ some)
-  exchange_one k sign false l n v gap pair good by s some = (subst (λ t. Stands t v) (some_inj l.state n.state by.1) s, some)
+      → SteppedBy b (e.stepped (Exchange k sign) l.state) l n → Stands l.state v → Stands n.state (exchanged k sign b v)
+  exchange_one k sign true l n v gap pair good by s = faithful.exchange k sign l.state n.state v gap good pair by.1 s
+  exchange_one k sign false l n v gap pair good by s = subst (λ t. Stands t v) (some_inj l.state n.state by.1) s
 
   exchange_some : (k : ℕ) (sign : Sign) (b : Bool) (v : V) → IsGap e k → Good v → nought (exchanged k sign b v) ≡ false → nought v ≡ false
-  exchange_some k sign true v gap good h = sym (faithful.exchange_nought k sign v gap good) ∙ h
+  exchange_some k sign true v gap good h = act_some k (operator.Exchange sign) v gap good h
   exchange_some k sign false v gap good h = h
 
   exchange_good : (k : ℕ) (sign : Sign) (b : Bool) (v : V) → IsGap e k → Good v → Good (exchanged k sign b v)
@@ -111,10 +117,9 @@ module _ {M T V : Type 0} (e : Told M T) (shapes : AreShapes e) (count m : ℕ) 
             (λ l. (e.is_pair k (e.shape l.state) ≡ true) × Right known vector l) (Right known (tested k sign test vector))
             (λ l n s p.
             let by = stepped_by l n (passes test l.word) (e.stepped (Exchange k sign) l.state) s in
-            let one = exchange_one k sign (passes test l.word) l n (vector l.word) gap p.0 (living.good l.word) by p.1.1 p.1.2 in (
+            let one = exchange_one k sign (passes test l.word) l n (vector l.word) gap p.0 (living.good l.word) by p.1.1 in (
               subst (IsWord count m known) (sym by.0) p.1.0,
-              subst (λ w. Stands n.state (tested k sign test vector w)) (sym by.0) one.0,
-              ap (λ w. nought (tested k sign test vector w)) by.0 ∙ one.1,
+              subst (λ w. Stands n.state (tested k sign test vector w)) (sym by.0) one,
             ))
             old new h (all_both (λ l. e.is_pair k (e.shape l.state) ≡ true) (Right known vector) old pairs living.sound);
         complete = λ w is n. subst (IsIn w) (sym words) (living.complete w is (exchange_some k sign (passes test w) (vector w) gap (living.good w) n));

@@ -1,4 +1,5 @@
 pub mod Meaning
+pub mod Rows
 pub mod Schedules
 pub mod Timely
 pub mod Turns

@@ -1,5 +1,5 @@
 -- What holds of every legal schedule.
-use Rattle.std.specs.Prelude.{◌≡◌, ℕ, ◌+◌, ◌<◌, ◌≤◌, ◌⊎◌, Bool, true, false, List, [], ◌∷◌, Ok}
+use Rattle.std.specs.Prelude.{◌≡◌, ℕ, ◌+◌, ◌<◌, ◌≤◌, ◌⊎◌, Bool, true, List, [], ◌∷◌, Ok}
 use Rattle.std.specs.List.{AllByRecursion}
 use Rattle.program_text.specs.Letters.{gap_of, letters, measurements}
 use Rattle.program_text.specs.declared.plan.Command.{Command}
@@ -76,6 +76,6 @@ abbrev pub ScheduleEnds : {M T V : Type 0} → Told M T → ℕ → Acts V → (
 ScheduleEnds {M} {T} {V} e count act Good nought Stands =
     (ranges : List Range) (sites : List (List Command)) (schedule : List ℕ) (s : M) (v : V) (live : List (Live M))
     → AreApart e.strands ranges (site_letters 0 sites) → IsSchedule (site_letters 0 sites) schedule → is_timely [] (turns (site_letters 0 sites) schedule) ≡ true
-    → Good v → Stands s v → nought v ≡ false
+    → Good v → Stands s v
     → run_of e 1 (turns (site_letters 0 sites) schedule) (start_word (measurements (in_text sites)) s) ≡ Ok live
     → AreEnds count (measurements (in_text sites)) act nought Stands (letters 0 (in_text sites)) v live
