@@ -1,0 +1,36 @@
+//! What is proved of texts, of schedules and of the live words of every faithful engine.
+
+ghost use Rattle.run_laws.specs.Meaning.{TextEnds};
+ghost use Rattle.run_laws.specs.Rows.{WordsAreAll};
+ghost use Rattle.run_laws.specs.Schedules.{EverySchedule, ScheduleEnds, SchedulesMeasureEach, TextIsSchedule, TextMeasuresEach};
+
+use crate::meaning::Meaning;
+
+/// Text order is a legal schedule, whose turns are the letters of the whole text.
+pub fn text_order()
+    ensures { TextIsSchedule }
+{}
+
+/// The letters of a text measure each of its places once, and so do the turns of every legal schedule.
+pub fn places()
+    ensures text { TextMeasuresEach }
+    ensures schedules { SchedulesMeasureEach }
+{}
+
+/// All words of so many labels stand in the order of lists of labels, each once.
+pub fn words()
+    ensures { WordsAreAll }
+{}
+
+/// Under every legal schedule of sites without a strand in common each word has the vector that it has in the order of the
+/// text. It rests on far commutation.
+pub fn schedules<E: Meaning>(_engine: &E)
+    ensures { EverySchedule (E.told _engine.now).strands (E.act _engine.now) (E.Good _engine.now) }
+{}
+
+/// At the end of a run each live word has a state that stands for its vector, and every word whose vector isn't zero is
+/// live, each once: in the order of the text, and under every legal schedule the same.
+pub fn live_words<E: Meaning>(_engine: &E)
+    ensures text { TextEnds (E.told _engine.now) (E.count _engine.now) (E.act _engine.now) (E.Good _engine.now) (E.nought _engine.now) (E.Stands _engine.now) }
+    ensures schedules { ScheduleEnds (E.told _engine.now) (E.count _engine.now) (E.act _engine.now) (E.Good _engine.now) (E.nought _engine.now) (E.Stands _engine.now) }
+{}
