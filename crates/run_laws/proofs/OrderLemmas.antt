@@ -332,8 +332,9 @@ module _ {M V : Type 0} (count m : ℕ) (act : Acts V) (nought : V → Bool) (St
         distinct = distinct_permutation (words_of live) (words_of ends) words are.distinct;
       }
 
-  pub sorted_ends : SortedEnds count m act nought Stands ls v
-  sorted_ends live sorted are p order =
+  sort_ends : (live sorted : List (Live M)) → AreEnds count m act nought Stands ls v live → IsPermutation live sorted → IsSortedByKey (λ l. l.word) word_cmp sorted
+      → AreEnds count m act nought Stands ls v sorted × IsStrictlySortedBy word_cmp (words_of sorted)
+  sort_ends live sorted are p order =
       let ends = ends_permuted live sorted p are in
       (ends, rises (λ (l : Live M). l.word) sorted order ends.distinct)
 
@@ -343,6 +344,9 @@ module _ {M V : Type 0} (count m : ℕ) (act : Acts V) (nought : V → Bool) (St
   right_in q (l ∷ live) h (inl same) = (l.state, subst (IsFull count m) (sym same) h.0.0, subst (λ w. Stands l.state (word_state act w ls v)) (sym same) h.0.1)
   right_in q (l ∷ live) h (inr there) = right_in q live h.1 there
 
+pub sorted_ends : {M V : Type 0} (count : ℕ) (act : Acts V) (nought : V → Bool) (Stands : M → V → Type 0) → SortedEnds count act nought Stands
+sorted_ends count act nought Stands m ls v live sorted are p order = sort_ends count m act nought Stands ls v live sorted are p order
+
 pub not_false : (b : Bool) → b ≡ false → not b ≡ true
 not_false b h = rw h refl
 
@@ -350,8 +354,8 @@ pub false_not : (b : Bool) → not b ≡ true → b ≡ false
 false_not true h = absurd (cc)
 false_not false h = refl
 
-pub ends_in_order : {M V : Type 0} (count m : ℕ) (act : Acts V) (nought : V → Bool) (Stands : M → V → Type 0) (ls : List Letter) (v : V) → EndsInOrder count m act nought Stands ls v
-ends_in_order count m act nought Stands ls v live are rising =
+pub ends_in_order : {M V : Type 0} (count : ℕ) (act : Acts V) (nought : V → Bool) (Stands : M → V → Type 0) → EndsInOrder count act nought Stands
+ends_in_order count act nought Stands m ls v live are rising =
     let some = λ (w : List ℕ). not (nought (word_state act w ls v)) in
     same_in_order (words_of live) (living_words count m act nought ls v) rising
     (IsStrictlySortedBy-filter word_cmp some (words count m) (sorted_words count m))

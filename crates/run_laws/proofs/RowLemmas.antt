@@ -9,9 +9,15 @@ use Rattle.comb_laws.specs.Plans.{words}
 use Rattle.comb_laws.specs.Words.{Acts, word_state}
 use Rattle.word_runs.specs.Runs.{Live}
 use Rattle.word_runs.proofs.EachLemmas.{all_map, both_parts}
-use Rattle.run_laws.specs.Meaning.{IsFull, words_of}
-use Rattle.run_laws.specs.Rows.{word_cmp, with_weight, weighed, IsWeighing, RowsOfEnds}
-use Rattle.run_laws.proofs.OrderLemmas.{same_in_order, sorted_words, in_words, words_in, in_filter, filter_in, right_in}
+use Rattle.program_text.specs.Letters.{letters, measurements}
+use Rattle.std.specs.List.Sorted.{IsStrictlySortedBy}
+use Rattle.word_runs.specs.Told.{Told, AreShapes}
+use Rattle.run_laws.specs.Schedules.{CommuteFar}
+use Rattle.run_laws.specs.Turns.{in_text}
+use Rattle.run_laws.proofs.EndMeaning.{text_ends, schedule_ends}
+use Rattle.run_laws.specs.Meaning.{IsFull, IsFaithful, AreEnds, words_of}
+use Rattle.run_laws.specs.Rows.{word_cmp, with_weight, weighed, rows_among, rows_of_plan, IsWeighing, RowsOfEnds, TextRows, ScheduleRows}
+use Rattle.run_laws.proofs.OrderLemmas.{same_in_order, sorted_words, in_words, words_in, in_filter, filter_in, right_in, sorted_ends}
 
 -- a filter of what is made of each
 filter_map_is : {A B : Type 0} (f : A → B) (p : B → Bool) (xs : List A) → filter p (map f xs) ≡ map f (filter (λ x. p (f x)) xs)
@@ -51,8 +57,9 @@ module _ {M V W : Type 0} (count m : ℕ) (act : Acts V) (nought : V → Bool) (
       by true is = absurd (let off = weighing.nothing (word_state act w ls v) is in let none = ap not (sym off) ∙ h in cc)
       by false is = is
 
-  pub rows_of_ends : RowsOfEnds count m act nought Stands weigh weight zero ls v
-  rows_of_ends live rows are rising fit =
+  counted_rows : (live : List (Live M)) (rows : List (List ℕ × W)) → AreEnds count m act nought Stands ls v live → IsStrictlySortedBy word_cmp (words_of live)
+      → weighed weigh live ≡ Some rows → rows_among zero rows ≡ rows_of_plan count m act weight zero ls v
+  counted_rows live rows are rising fit =
       let stands = all_map (λ l. IsFull count m l.word × Stands l.state (word_state act l.word ls v)) (λ l. Stands l.state (word_state act l.word ls v)) live (λ l p. p.1) are.sound in
       let same = same_in_order (filter counts (words_of live)) (filter counts (words count m))
       (IsStrictlySortedBy-filter word_cmp counts (words_of live) rising) (IsStrictlySortedBy-filter word_cmp counts (words count m) (sorted_words count m))
@@ -65,3 +72,21 @@ module _ {M V W : Type 0} (count m : ℕ) (act : Acts V) (nought : V → Bool) (
       ap (filter (λ row. not (zero row.1))) (all_weights live rows fit stands)
       ∙ (filter_map_is row_at (λ row. not (zero row.1)) (words_of live)
       ∙ (ap (map row_at) same ∙ sym (filter_map_is row_at (λ row. not (zero row.1)) (words count m))))
+
+module _ {M V W : Type 0} (count : ℕ) (act : Acts V) (nought : V → Bool) (Stands : M → V → Type 0) (weigh : M → Option W) (weight : V → W) (zero : W → Bool)
+    (weighing : IsWeighing nought Stands weigh weight zero) where
+  pub rows_of_ends : RowsOfEnds count act nought Stands weigh weight zero
+  rows_of_ends m ls v live rows ends of =
+      let s = sorted_ends count act nought Stands m ls v live of.sorted ends of.permutation of.order in
+      of.are ∙ counted_rows count m act nought Stands weigh weight zero weighing ls v of.sorted of.all s.0 s.1 of.fit
+
+  module _ {T : Type 0} (e : Told M T) (shapes : AreShapes e) (Good : V → Type 0) (faithful : IsFaithful e count act Good nought Stands) where
+    pub text_rows : TextRows e count act Good Stands weigh weight zero
+    text_rows commands s v live rows gaps timely good stands ends of =
+        rows_of_ends (measurements commands) (letters 0 commands) v live rows
+        (text_ends e shapes count act Good nought Stands faithful commands s v live gaps timely good stands ends) of
+
+    pub schedule_rows : CommuteFar e.strands act Good → ScheduleRows e count act Good Stands weigh weight zero
+    schedule_rows far ranges sites schedule s v live rows apart legal timely good stands ends of =
+        rows_of_ends (measurements (in_text sites)) (letters 0 (in_text sites)) v live rows
+        (schedule_ends e shapes count act Good nought Stands faithful far ranges sites schedule s v live apart legal timely good stands ends) of
