@@ -12,3 +12,5 @@ pub mod LetterPlaces
 pub mod ExactLemmas
 pub mod OrderLemmas
 pub mod RowLemmas
+mod Witness
+mod Worked
