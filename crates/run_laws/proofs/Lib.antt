@@ -14,3 +14,4 @@ pub mod OrderLemmas
 pub mod RowLemmas
 mod Witness
 mod Worked
+pub mod ProgramLemmas

@@ -1,4 +1,5 @@
 pub mod Meaning
+pub mod Programs
 pub mod Rows
 pub mod Schedules
 pub mod Timely

@@ -1,6 +1,7 @@
 //! What is proved of texts, of schedules and of the live words of every faithful engine.
 
 ghost use Rattle.run_laws.specs.Meaning.{TextEnds};
+ghost use Rattle.run_laws.specs.Programs.{ProgramsMayRun};
 ghost use Rattle.run_laws.specs.Rows.{EndsInOrder, ScheduleRows, SortedEnds, TextRows, WordsAreAll};
 ghost use Rattle.run_laws.specs.Schedules.{EverySchedule, ScheduleEnds, SchedulesMeasureEach, TextIsSchedule, TextMeasuresEach};
 
@@ -15,6 +16,11 @@ pub fn text_order()
 pub fn places()
     ensures text { TextMeasuresEach }
     ensures schedules { SchedulesMeasureEach }
+{}
+
+/// A well formed program may run: its sites are apart, and each outcome is there when it is tested.
+pub fn programs()
+    ensures { ProgramsMayRun }
 {}
 
 /// All words of so many labels stand in the order of lists of labels, each once.
