@@ -77,12 +77,13 @@ module _ {M T V : Type 0} (e : Told M T) (shapes : AreShapes e) (count : ℕ) (a
 
   -- letters in time that measure each place once end with the words whose vector isn't zero
   pub ends_are : (m : ℕ) (ls : List Letter) (s : M) (v : V) (live : List (Live M)) → AllByRecursion (λ l. IsGap e (gap_of l)) ls → MeasureEach m ls → is_timely [] ls ≡ true
-      → Good v → Stands s v → run_of e 1 ls (start_word m s) ≡ Ok live → AreEnds count m act nought Stands ls v live
+      → Good v → Stands s v → run_of e 1 ls (start_word m s) ≡ Ok live → AreEnds count m act Good nought Stands ls v live
   ends_are m ls s v live gaps each timely good stands ends =
       let known = known_after [] ls in
       let fit = all_fit m ls gaps (places_below m ls [] timely (λ p on. true_lt p m (sym (each.places p) ∙ on))) in
       let living = run_means e shapes count m act Good nought Stands faithful 1 ls [] (λ w. v) (start_word m s) live fit timely each.once ends (e.shape s, (refl, tt)) (start_living m s v good stands) in
       record {
+        good = living.good;
         sound = all_map (λ l. IsWord count m known l.word × Stands l.state (word_state act l.word ls v))
             (λ l. IsFull count m l.word × Stands l.state (word_state act l.word ls v))
             live (λ l p. (word_full count m known each.places l.word p.0, p.1)) living.sound;
@@ -116,6 +117,7 @@ module _ {M T V : Type 0} (e : Told M T) (shapes : AreShapes e) (count : ℕ) (a
       let are = ends_are m ls s v live gaps (schedules_measure_each sites schedule legal) timely good stands ends in
       let same = λ (w : List ℕ). every_schedule e.strands act Good far ranges site_ls schedule w v apart legal good ∙ ap (λ t. word_state act w t v) (letters_of_text 0 sites) in
       record {
+        good = λ w. subst Good (same w) (are.good w);
         sound = all_map (λ l. IsFull count m l.word × Stands l.state (word_state act l.word ls v))
             (λ l. IsFull count m l.word × Stands l.state (word_state act l.word text v))
             live (λ l p. (p.0, subst (Stands l.state) (same l.word) p.1)) are.sound;

@@ -318,22 +318,23 @@ filter_in {A} test x (y ∷ ys) h = by (test y) refl h (filter_in test x ys)
 pub words_are_all : WordsAreAll
 words_are_all count m = record { rising = sorted_words count m; full = words_in count m; all = in_words count m }
 
-module _ {M V : Type 0} (count m : ℕ) (act : Acts V) (nought : V → Bool) (Stands : M → V → Type 0) (ls : List Letter) (v : V) where
+module _ {M V : Type 0} (count m : ℕ) (act : Acts V) (Good : V → Type 0) (nought : V → Bool) (Stands : M → V → Type 0) (ls : List Letter) (v : V) where
   abbrev Right : Live M → Type 0
   Right l = IsFull count m l.word × Stands l.state (word_state act l.word ls v)
 
   -- the order of the ends doesn't count
-  ends_permuted : (live ends : List (Live M)) → IsPermutation live ends → AreEnds count m act nought Stands ls v live → AreEnds count m act nought Stands ls v ends
+  ends_permuted : (live ends : List (Live M)) → IsPermutation live ends → AreEnds count m act Good nought Stands ls v live → AreEnds count m act Good nought Stands ls v ends
   ends_permuted live ends p are =
       let words = IsPermutation-map (λ (l : Live M). l.word) live ends p in
       record {
+        good = are.good;
         sound = recursion_from_All Right ends (All-permutation Right live ends p (All-from_recursion Right live are.sound));
         complete = λ w is n. out_permutation (words_of live) (words_of ends) words w (are.complete w is n);
         distinct = distinct_permutation (words_of live) (words_of ends) words are.distinct;
       }
 
-  sort_ends : (live sorted : List (Live M)) → AreEnds count m act nought Stands ls v live → IsPermutation live sorted → IsSortedByKey (λ l. l.word) word_cmp sorted
-      → AreEnds count m act nought Stands ls v sorted × IsStrictlySortedBy word_cmp (words_of sorted)
+  sort_ends : (live sorted : List (Live M)) → AreEnds count m act Good nought Stands ls v live → IsPermutation live sorted → IsSortedByKey (λ l. l.word) word_cmp sorted
+      → AreEnds count m act Good nought Stands ls v sorted × IsStrictlySortedBy word_cmp (words_of sorted)
   sort_ends live sorted are p order =
       let ends = ends_permuted live sorted p are in
       (ends, rises (λ (l : Live M). l.word) sorted order ends.distinct)
@@ -344,8 +345,8 @@ module _ {M V : Type 0} (count m : ℕ) (act : Acts V) (nought : V → Bool) (St
   right_in q (l ∷ live) h (inl same) = (l.state, subst (IsFull count m) (sym same) h.0.0, subst (λ w. Stands l.state (word_state act w ls v)) (sym same) h.0.1)
   right_in q (l ∷ live) h (inr there) = right_in q live h.1 there
 
-pub sorted_ends : {M V : Type 0} (count : ℕ) (act : Acts V) (nought : V → Bool) (Stands : M → V → Type 0) → SortedEnds count act nought Stands
-sorted_ends count act nought Stands m ls v live sorted are p order = sort_ends count m act nought Stands ls v live sorted are p order
+pub sorted_ends : {M V : Type 0} (count : ℕ) (act : Acts V) (Good : V → Type 0) (nought : V → Bool) (Stands : M → V → Type 0) → SortedEnds count act Good nought Stands
+sorted_ends count act Good nought Stands m ls v live sorted are p order = sort_ends count m act Good nought Stands ls v live sorted are p order
 
 pub not_false : (b : Bool) → b ≡ false → not b ≡ true
 not_false b h = rw h refl
@@ -354,10 +355,10 @@ pub false_not : (b : Bool) → not b ≡ true → b ≡ false
 false_not true h = absurd (cc)
 false_not false h = refl
 
-pub ends_in_order : {M V : Type 0} (count : ℕ) (act : Acts V) (nought : V → Bool) (Stands : M → V → Type 0) → EndsInOrder count act nought Stands
-ends_in_order count act nought Stands m ls v live are rising =
+pub ends_in_order : {M V : Type 0} (count : ℕ) (act : Acts V) (Good : V → Type 0) (nought : V → Bool) (Stands : M → V → Type 0) → EndsInOrder count act Good nought Stands
+ends_in_order count act Good nought Stands m ls v live are rising =
     let some = λ (w : List ℕ). not (nought (word_state act w ls v)) in
     same_in_order (words_of live) (living_words count m act nought ls v) rising
     (IsStrictlySortedBy-filter word_cmp some (words count m) (sorted_words count m))
-    (λ q h. let p = right_in count m act nought (StandsAlive nought Stands) ls v q live are.sound h in in_filter some q (words count m) (in_words count m q p.1) (not_false (nought (word_state act q ls v)) p.2.1))
+    (λ q h. let p = right_in count m act Good nought (StandsAlive nought Stands) ls v q live are.sound h in in_filter some q (words count m) (in_words count m q p.1) (not_false (nought (word_state act q ls v)) p.2.1))
     (λ q h. let p = filter_in some q (words count m) h in are.complete q (words_in count m q p.0) (false_not (nought (word_state act q ls v)) p.1))

@@ -29,35 +29,35 @@ filter_map_is {A} {B} f p (x ∷ xs) = by (p (f x)) (filter_map_is f p xs)
     by true rest = ap (λ l. f x ∷ l) rest
     by false rest = rest
 
-module _ {M V W : Type 0} (count m : ℕ) (act : Acts V) (nought : V → Bool) (Stands : M → V → Type 0) (weigh : M → Option W) (weight : V → W) (zero : W → Bool)
-    (weighing : IsWeighing nought Stands weigh weight zero) (ls : List Letter) (v : V) where
+module _ {M V W : Type 0} (count m : ℕ) (act : Acts V) (Good : V → Type 0) (nought : V → Bool) (Stands : M → V → Type 0) (weigh : M → Option W) (weight : V → W) (zero : W → Bool)
+    (weighing : IsWeighing Good nought Stands weigh weight zero) (ls : List Letter) (v : V) where
   -- a word with the weight of its vector
   abbrev row_at : List ℕ → List ℕ × W
   row_at w = (w, weight (word_state act w ls v))
 
-  weight_at : (l : Live M) (o : Option W) (r : List ℕ × W) → weigh l.state ≡ o → with_weight l o ≡ Some r → Stands l.state (word_state act l.word ls v) → r ≡ row_at l.word
-  weight_at l None r is h s = absurd (cc)
-  weight_at l (Some x) r is h s = sym (some_inj (l.word, x) r h) ∙ ap (λ y. (l.word, y)) (weighing.weighs l.state (word_state act l.word ls v) x s is)
+  weight_at : (l : Live M) (o : Option W) (r : List ℕ × W) → weigh l.state ≡ o → with_weight l o ≡ Some r → Good (word_state act l.word ls v) → Stands l.state (word_state act l.word ls v) → r ≡ row_at l.word
+  weight_at l None r is h good s = absurd (cc)
+  weight_at l (Some x) r is h good s = sym (some_inj (l.word, x) r h) ∙ ap (λ y. (l.word, y)) (weighing.weighs l.state (word_state act l.word ls v) x good s is)
 
-  all_weights : (live : List (Live M)) (rows : List (List ℕ × W)) → weighed weigh live ≡ Some rows → AllByRecursion (λ l. Stands l.state (word_state act l.word ls v)) live
+  all_weights : (live : List (Live M)) (rows : List (List ℕ × W)) → weighed weigh live ≡ Some rows → ((w : List ℕ) → Good (word_state act w ls v)) → AllByRecursion (λ l. Stands l.state (word_state act l.word ls v)) live
       → rows ≡ map row_at (words_of live)
-  all_weights [] rows h s = sym (some_inj [] rows h)
-  all_weights (l ∷ live) rows h s =
+  all_weights [] rows h good s = sym (some_inj [] rows h)
+  all_weights (l ∷ live) rows h good s =
       let p = both_parts (with_weight l (weigh l.state)) (weighed weigh live) rows h in
-      p.is ∙ (λ j. weight_at l (weigh l.state) p.head refl p.first s.0 j ∷ all_weights live p.tail p.rest s.1 j)
+      p.is ∙ (λ j. weight_at l (weigh l.state) p.head refl p.first (good l.word) s.0 j ∷ all_weights live p.tail p.rest good s.1 j)
 
   abbrev counts : List ℕ → Bool
   counts w = not (zero (weight (word_state act w ls v)))
 
   -- a word that counts has a vector that isn't zero
-  counted_some : (w : List ℕ) → counts w ≡ true → nought (word_state act w ls v) ≡ false
-  counted_some w h = by (nought (word_state act w ls v)) refl
+  counted_some : (w : List ℕ) → Good (word_state act w ls v) → counts w ≡ true → nought (word_state act w ls v) ≡ false
+  counted_some w good h = by (nought (word_state act w ls v)) refl
     where
       by : (b : Bool) → nought (word_state act w ls v) ≡ b → nought (word_state act w ls v) ≡ false
-      by true is = absurd (let off = weighing.nothing (word_state act w ls v) is in let none = ap not (sym off) ∙ h in cc)
+      by true is = absurd (let off = weighing.nothing (word_state act w ls v) good is in let none = ap not (sym off) ∙ h in cc)
       by false is = is
 
-  counted_rows : (live : List (Live M)) (rows : List (List ℕ × W)) → AreEnds count m act nought Stands ls v live → IsStrictlySortedBy word_cmp (words_of live)
+  counted_rows : (live : List (Live M)) (rows : List (List ℕ × W)) → AreEnds count m act Good nought Stands ls v live → IsStrictlySortedBy word_cmp (words_of live)
       → weighed weigh live ≡ Some rows → rows_among zero rows ≡ rows_of_plan count m act weight zero ls v
   counted_rows live rows are rising fit =
       let stands = all_map (λ l. IsFull count m l.word × Stands l.state (word_state act l.word ls v)) (λ l. Stands l.state (word_state act l.word ls v)) live (λ l p. p.1) are.sound in
@@ -65,22 +65,22 @@ module _ {M V W : Type 0} (count m : ℕ) (act : Acts V) (nought : V → Bool) (
       (IsStrictlySortedBy-filter word_cmp counts (words_of live) rising) (IsStrictlySortedBy-filter word_cmp counts (words count m) (sorted_words count m))
       (λ q h.
       let p = filter_in counts q (words_of live) h in
-      in_filter counts q (words count m) (in_words count m q (right_in count m act nought Stands ls v q live are.sound p.0).1) p.1)
+      in_filter counts q (words count m) (in_words count m q (right_in count m act Good nought Stands ls v q live are.sound p.0).1) p.1)
       (λ q h.
       let p = filter_in counts q (words count m) h in
-      in_filter counts q (words_of live) (are.complete q (words_in count m q p.0) (counted_some q p.1)) p.1) in
-      ap (filter (λ row. not (zero row.1))) (all_weights live rows fit stands)
+      in_filter counts q (words_of live) (are.complete q (words_in count m q p.0) (counted_some q (are.good q) p.1)) p.1) in
+      ap (filter (λ row. not (zero row.1))) (all_weights live rows fit are.good stands)
       ∙ (filter_map_is row_at (λ row. not (zero row.1)) (words_of live)
       ∙ (ap (map row_at) same ∙ sym (filter_map_is row_at (λ row. not (zero row.1)) (words count m))))
 
-module _ {M V W : Type 0} (count : ℕ) (act : Acts V) (nought : V → Bool) (Stands : M → V → Type 0) (weigh : M → Option W) (weight : V → W) (zero : W → Bool)
-    (weighing : IsWeighing nought Stands weigh weight zero) where
-  pub rows_of_ends : RowsOfEnds count act nought Stands weigh weight zero
+module _ {M V W : Type 0} (count : ℕ) (act : Acts V) (Good : V → Type 0) (nought : V → Bool) (Stands : M → V → Type 0) (weigh : M → Option W) (weight : V → W) (zero : W → Bool)
+    (weighing : IsWeighing Good nought Stands weigh weight zero) where
+  pub rows_of_ends : RowsOfEnds count act Good nought Stands weigh weight zero
   rows_of_ends m ls v live rows ends of =
-      let s = sorted_ends count act nought Stands m ls v live of.sorted ends of.permutation of.order in
-      of.are ∙ counted_rows count m act nought Stands weigh weight zero weighing ls v of.sorted of.all s.0 s.1 of.fit
+      let s = sorted_ends count act Good nought Stands m ls v live of.sorted ends of.permutation of.order in
+      of.are ∙ counted_rows count m act Good nought Stands weigh weight zero weighing ls v of.sorted of.all s.0 s.1 of.fit
 
-  module _ {T : Type 0} (e : Told M T) (shapes : AreShapes e) (Good : V → Type 0) (faithful : IsFaithful e count act Good nought Stands) where
+  module _ {T : Type 0} (e : Told M T) (shapes : AreShapes e) (faithful : IsFaithful e count act Good nought Stands) where
     pub text_rows : TextRows e count act Good Stands weigh weight zero
     text_rows commands s v live rows gaps timely good stands ends of =
         rows_of_ends (measurements commands) (letters 0 commands) v live rows

@@ -265,8 +265,8 @@ nought_weight v h = by (empty v.first) refl h
     by true is rest = let a = empty_sum v.first is in rw a (omega arith)
     by false is rest = let a = empty_sum v.second rest in rw a (omega arith)
 
-pub two_weighing : IsWeighing two_nought stands (λ (s : Pair). Some (two_weight s.vector)) two_weight (λ x. x == 0)
+pub two_weighing : IsWeighing (λ v. Unit {0}) two_nought stands (λ (s : Pair). Some (two_weight s.vector)) two_weight (λ x. x == 0)
 two_weighing = record {
-  weighs = λ s v x h is. sym (some_inj (two_weight s.vector) x is) ∙ ap two_weight h;
-  nothing = λ v h. ap (λ n. n == 0) (nought_weight v h);
+  weighs = λ s v x good h is. sym (some_inj (two_weight s.vector) x is) ∙ ap two_weight h;
+  nothing = λ v good h. ap (λ n. n == 0) (nought_weight v h);
 }

@@ -94,8 +94,9 @@ pub record IsFull (count m : ℕ) (word : List ℕ) : Type 0 where
 -- The live words at the end of a run: each state stands for the vector of its word under the letters, and every word
 -- whose vector isn't zero is live, each once. Where states stand for vectors that aren't zero, these are exactly the words
 -- whose vector isn't zero.
-pub record AreEnds {M V : Type 0} (count m : ℕ) (act : Acts V) (nought : V → Bool) (Stands : M → V → Type 0)
+pub record AreEnds {M V : Type 0} (count m : ℕ) (act : Acts V) (Good : V → Type 0) (nought : V → Bool) (Stands : M → V → Type 0)
     (ls : List Letter) (v : V) (live : List (Live M)) : Type 0 where
+  pub good : (w : List ℕ) → Good (word_state act w ls v)
   pub sound : AllByRecursion (λ l. IsFull count m l.word × Stands l.state (word_state act l.word ls v)) live
   pub complete : (w : List ℕ) → IsFull count m w → nought (word_state act w ls v) ≡ false → IsIn w (words_of live)
   pub distinct : AreDistinct (words_of live)
@@ -108,4 +109,4 @@ TextEnds {M} {T} {V} e count act Good nought Stands =
     → AllByRecursion (λ l. IsGap e (gap_of l)) (letters 0 commands) → is_timely [] (letters 0 commands) ≡ true
     → Good v → Stands s v
     → run_of e 1 (letters 0 commands) (start_word (measurements commands) s) ≡ Ok live
-    → AreEnds count (measurements commands) act nought Stands (letters 0 commands) v live
+    → AreEnds count (measurements commands) act Good nought Stands (letters 0 commands) v live

@@ -35,24 +35,24 @@ abbrev pub living_words : {V : Type 0} → ℕ → ℕ → Acts V → (V → Boo
 living_words count m act nought ls v = filter (λ w. not (nought (word_state act w ls v))) (words count m)
 
 -- Live words that are sorted by their labels are what was live, in the order of lists of labels.
-abbrev pub SortedEnds : {M V : Type 0} → ℕ → Acts V → (V → Bool) → (M → V → Type 0) → Type 0
-SortedEnds {M} {V} count act nought Stands =
+abbrev pub SortedEnds : {M V : Type 0} → ℕ → Acts V → (V → Type 0) → (V → Bool) → (M → V → Type 0) → Type 0
+SortedEnds {M} {V} count act Good nought Stands =
     (m : ℕ) (ls : List Letter) (v : V) (live sorted : List (Live M))
-    → AreEnds count m act nought Stands ls v live → IsPermutation live sorted → IsSortedByKey (λ l. l.word) word_cmp sorted
-    → AreEnds count m act nought Stands ls v sorted × IsStrictlySortedBy word_cmp (words_of sorted)
+    → AreEnds count m act Good nought Stands ls v live → IsPermutation live sorted → IsSortedByKey (λ l. l.word) word_cmp sorted
+    → AreEnds count m act Good nought Stands ls v sorted × IsStrictlySortedBy word_cmp (words_of sorted)
 
 -- Where their vectors aren't zero, they are a filter of all words in order.
-abbrev pub EndsInOrder : {M V : Type 0} → ℕ → Acts V → (V → Bool) → (M → V → Type 0) → Type 0
-EndsInOrder {M} {V} count act nought Stands =
+abbrev pub EndsInOrder : {M V : Type 0} → ℕ → Acts V → (V → Type 0) → (V → Bool) → (M → V → Type 0) → Type 0
+EndsInOrder {M} {V} count act Good nought Stands =
     (m : ℕ) (ls : List Letter) (v : V) (live : List (Live M))
-    → AreEnds count m act nought (StandsAlive nought Stands) ls v live → IsStrictlySortedBy word_cmp (words_of live)
+    → AreEnds count m act Good nought (StandsAlive nought Stands) ls v live → IsStrictlySortedBy word_cmp (words_of live)
     → words_of live ≡ living_words count m act nought ls v
 
 -- What weighing owes: the weight of a state is that of the vector that it stands for, where it fits, and zero has the
 -- weight zero.
-pub record IsWeighing {M V W : Type 0} (nought : V → Bool) (Stands : M → V → Type 0) (weigh : M → Option W) (weight : V → W) (zero : W → Bool) : Type 0 where
-  pub weighs : (s : M) (v : V) (x : W) → Stands s v → weigh s ≡ Some x → x ≡ weight v
-  pub nothing : (v : V) → nought v ≡ true → zero (weight v) ≡ true
+pub record IsWeighing {M V W : Type 0} (Good : V → Type 0) (nought : V → Bool) (Stands : M → V → Type 0) (weigh : M → Option W) (weight : V → W) (zero : W → Bool) : Type 0 where
+  pub weighs : (s : M) (v : V) (x : W) → Good v → Stands s v → weigh s ≡ Some x → x ≡ weight v
+  pub nothing : (v : V) → Good v → nought v ≡ true → zero (weight v) ≡ true
 
 -- those whose weight isn't zero
 abbrev pub rows_among : {W : Type 0} → (W → Bool) → List (List ℕ × W) → List (List ℕ × W)
@@ -82,10 +82,10 @@ pub record AreRows {M W : Type 0} (weigh : M → Option W) (zero : W → Bool) (
   pub are : rows ≡ rows_among zero all
 
 -- They are the rows of the plan.
-abbrev pub RowsOfEnds : {M V W : Type 0} → ℕ → Acts V → (V → Bool) → (M → V → Type 0) → (M → Option W) → (V → W) → (W → Bool) → Type 0
-RowsOfEnds {M} {V} {W} count act nought Stands weigh weight zero =
+abbrev pub RowsOfEnds : {M V W : Type 0} → ℕ → Acts V → (V → Type 0) → (V → Bool) → (M → V → Type 0) → (M → Option W) → (V → W) → (W → Bool) → Type 0
+RowsOfEnds {M} {V} {W} count act Good nought Stands weigh weight zero =
     (m : ℕ) (ls : List Letter) (v : V) (live : List (Live M)) (rows : List (List ℕ × W))
-    → AreEnds count m act nought Stands ls v live → AreRows weigh zero live rows → rows ≡ rows_of_plan count m act weight zero ls v
+    → AreEnds count m act Good nought Stands ls v live → AreRows weigh zero live rows → rows ≡ rows_of_plan count m act weight zero ls v
 
 -- In the order of the text the rows of a run are those of the plan,
 abbrev pub TextRows : {M T V W : Type 0} → Told M T → ℕ → Acts V → (V → Type 0) → (M → V → Type 0) → (M → Option W) → (V → W) → (W → Bool) → Type 0

@@ -78,4 +78,4 @@ ScheduleEnds {M} {T} {V} e count act Good nought Stands =
     → AreApart e.strands ranges (site_letters 0 sites) → IsSchedule (site_letters 0 sites) schedule → is_timely [] (turns (site_letters 0 sites) schedule) ≡ true
     → Good v → Stands s v
     → run_of e 1 (turns (site_letters 0 sites) schedule) (start_word (measurements (in_text sites)) s) ≡ Ok live
-    → AreEnds count (measurements (in_text sites)) act nought Stands (letters 0 (in_text sites)) v live
+    → AreEnds count (measurements (in_text sites)) act Good nought Stands (letters 0 (in_text sites)) v live

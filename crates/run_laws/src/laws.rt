@@ -44,8 +44,8 @@ pub fn live_words<E: Meaning>(_engine: &E)
 /// Live words that are sorted by their labels stand in the order of lists of labels; and where their vectors aren't zero,
 /// they are a filter of all words in order.
 pub fn order<E: Meaning>(_engine: &E)
-    ensures sorted { SortedEnds (E.count _engine.now) (E.act _engine.now) (E.nought _engine.now) (E.Stands _engine.now) }
-    ensures living { EndsInOrder (E.count _engine.now) (E.act _engine.now) (E.nought _engine.now) (E.Stands _engine.now) }
+    ensures sorted { SortedEnds (E.count _engine.now) (E.act _engine.now) (E.Good _engine.now) (E.nought _engine.now) (E.Stands _engine.now) }
+    ensures living { EndsInOrder (E.count _engine.now) (E.act _engine.now) (E.Good _engine.now) (E.nought _engine.now) (E.Stands _engine.now) }
 {}
 
 /// The rows of a run, its live words in order whose weight isn't zero, are those of the plan: in the order of the text, and

@@ -47,5 +47,5 @@ pub trait Meaning: Drop {
 
     ghost far: { (e : Self) → CommuteFar (told e).strands (act e) (Good e) };
 
-    ghost weighing: { (e : Self) → IsWeighing (nought e) (Stands e) (weigh e) (weight e) (zero e) };
+    ghost weighing: { (e : Self) → IsWeighing (Good e) (nought e) (Stands e) (weigh e) (weight e) (zero e) };
 }
