@@ -20,14 +20,14 @@ joined_some (Some xs) (Some zs) rest' made ys e h =
     rw (h zs refl) (ap Some (sym (append_assoc xs zs made)) ∙ ap (λ l. Some (l ++ made)) (some_inj (xs ++ zs) ys e))
 
 -- the parts of what is there
-record Joined {A : Type 0} (o rest : Option (List A)) (ys : List A) : Type 0 where
+pub record Joined {A : Type 0} (o rest : Option (List A)) (ys : List A) : Type 0 where
   pub head : List A
   pub tail : List A
   pub is : ys ≡ head ++ tail
   pub first : o ≡ Some head
   pub others : rest ≡ Some tail
 
-joined_parts : {A : Type 0} (o rest : Option (List A)) (ys : List A) → joined o rest ≡ Some ys → Joined o rest ys
+pub joined_parts : {A : Type 0} (o rest : Option (List A)) (ys : List A) → joined o rest ≡ Some ys → Joined o rest ys
 joined_parts None rest ys e = absurd (cc)
 joined_parts (Some xs) None ys e = absurd (cc)
 joined_parts (Some xs) (Some zs) ys e = record { head = xs; tail = zs; is = sym (some_inj (xs ++ zs) ys e); first = refl; others = refl }
@@ -37,12 +37,12 @@ pub all_places : {M : Type 0} (P : ℕ → Type 0) (m : ℕ) (live : List (Live 
 all_places P m live p long = all_map (λ l. length l.word ≡ m) (λ l. P (length l.word)) live (λ l e. subst P (sym e) p) long
 
 -- what is made of words with parts
-record Made {M : Type 0} (place : ℕ) (word : List ℕ) (o : Option (List (ℕ × M))) (ys : List (Live M)) : Type 0 where
+pub record Made {M : Type 0} (place : ℕ) (word : List ℕ) (o : Option (List (ℕ × M))) (ys : List (Live M)) : Type 0 where
   pub parts : List (ℕ × M)
   pub some : o ≡ Some parts
   pub is : ys ≡ outcomes_of place word parts
 
-made_of : {M : Type 0} (place : ℕ) (word : List ℕ) (o : Option (List (ℕ × M))) (ys : List (Live M)) → split_by place word o ≡ Some ys → Made place word o ys
+pub made_of : {M : Type 0} (place : ℕ) (word : List ℕ) (o : Option (List (ℕ × M))) (ys : List (Live M)) → split_by place word o ≡ Some ys → Made place word o ys
 made_of place word None ys e = absurd (cc)
 made_of place word (Some parts) ys e = record { parts = parts; some = refl; is = sym (some_inj (outcomes_of place word parts) ys e) }
 

@@ -25,7 +25,7 @@ stepped_state {M} l m (Some s) h =
     let same = some_inj (record { word = l.word; state = s }) m h in
     (sym (ap (λ (x : Live M). x.word) same), ap (λ (x : Live M). Some x.state) same)
 
-stepped_by : {M : Type 0} (l m : Live M) (b : Bool) (o : Option M) → (if b then live_after l o else Some l) ≡ Some m → SteppedBy b o l m
+pub stepped_by : {M : Type 0} (l m : Live M) (b : Bool) (o : Option M) → (if b then live_after l o else Some l) ≡ Some m → SteppedBy b o l m
 stepped_by l m true o h = stepped_state l m o h
 stepped_by {M} l m false o h =
     let same = some_inj l m h in
@@ -42,7 +42,7 @@ module _ {M T : Type 0} (e : Told M T) where
   shape_by shapes step false l m stays h = ap e.shape (sym (some_inj l.state m.state h)) ∙ sym (stays (e.shape l.state) refl)
 
   module _ (test : Option Test) (step : Step) (old new : List (Live M)) (is : step_words e test step old ≡ Some new) where
-    step_shape : AreShapes e → Stays test step → (t : T) → HaveShape e t old → HaveShape e (after_step e step t) new
+    pub step_shape : AreShapes e → Stays test step → (t : T) → HaveShape e t old → HaveShape e (after_step e step t) new
     step_shape shapes stays t h =
         each_keeps (step_word e test step) (λ l. e.shape l.state ≡ t) (λ m. e.shape m.state ≡ after_step e step t)
         (λ l m s p. shape_by shapes step (passes test l.word) l m (stays l.word) (stepped_by l m (passes test l.word) (e.stepped step l.state) s).1 ∙ ap (after_step e step) p)
@@ -60,7 +60,7 @@ module _ {M T : Type 0} (e : Told M T) where
         (λ l n s p. ap length (stepped_by l n (passes test l.word) (e.stepped step l.state) s).0 ∙ p) old new is h
 
   -- what passes the limits is left as it is
-  limited_ok : (turn : ℕ) (live new : List (Live M)) → limited e turn live ≡ Ok new → new ≡ live
+  pub limited_ok : (turn : ℕ) (live new : List (Live M)) → limited e turn live ≡ Ok new → new ≡ live
   limited_ok turn live new h = by_words (nat_lt WORD_LIMIT (length live)) (nat_lt AMPLITUDE_LIMIT (width e live)) h
     where
       by_words : (b d : Bool) → (if b then Err (Branches turn (counted (length live))) else (if d then Err (Wide turn (counted (width e live))) else Ok live)) ≡ Ok new → new ≡ live

@@ -1,0 +1,6 @@
+pub mod Meaning
+pub mod Programs
+pub mod Rows
+pub mod Schedules
+pub mod Timely
+pub mod Turns

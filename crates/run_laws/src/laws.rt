@@ -1,0 +1,56 @@
+//! What is proved of texts, of schedules and of the live words of every faithful engine.
+
+ghost use Rattle.run_laws.specs.Meaning.{TextEnds};
+ghost use Rattle.run_laws.specs.Programs.{ProgramsMayRun};
+ghost use Rattle.run_laws.specs.Rows.{EndsInOrder, ScheduleRows, SortedEnds, TextRows, WordsAreAll};
+ghost use Rattle.run_laws.specs.Schedules.{EverySchedule, ScheduleEnds, SchedulesMeasureEach, TextIsSchedule, TextMeasuresEach};
+
+use crate::meaning::Meaning;
+
+/// Text order is a legal schedule, whose turns are the letters of the whole text.
+pub fn text_order()
+    ensures { TextIsSchedule }
+{}
+
+/// The letters of a text measure each of its places once, and so do the turns of every legal schedule.
+pub fn places()
+    ensures text { TextMeasuresEach }
+    ensures schedules { SchedulesMeasureEach }
+{}
+
+/// A well formed program may run: its sites are apart, and each outcome is there when it is tested.
+pub fn programs()
+    ensures { ProgramsMayRun }
+{}
+
+/// All words of so many labels stand in the order of lists of labels, each once.
+pub fn words()
+    ensures { WordsAreAll }
+{}
+
+/// Under every legal schedule of sites without a strand in common each word has the vector that it has in the order of the
+/// text. It rests on far commutation.
+pub fn schedules<E: Meaning>(_engine: &E)
+    ensures { EverySchedule (E.told _engine.now).strands (E.act _engine.now) (E.Good _engine.now) }
+{}
+
+/// At the end of a run each live word has a state that stands for its vector, and every word whose vector isn't zero is
+/// live, each once: in the order of the text, and under every legal schedule the same.
+pub fn live_words<E: Meaning>(_engine: &E)
+    ensures text { TextEnds (E.told _engine.now) (E.count _engine.now) (E.act _engine.now) (E.Good _engine.now) (E.nought _engine.now) (E.Stands _engine.now) }
+    ensures schedules { ScheduleEnds (E.told _engine.now) (E.count _engine.now) (E.act _engine.now) (E.Good _engine.now) (E.nought _engine.now) (E.Stands _engine.now) }
+{}
+
+/// Live words that are sorted by their labels stand in the order of lists of labels; and where their vectors aren't zero,
+/// they are a filter of all words in order.
+pub fn order<E: Meaning>(_engine: &E)
+    ensures sorted { SortedEnds (E.count _engine.now) (E.act _engine.now) (E.Good _engine.now) (E.nought _engine.now) (E.Stands _engine.now) }
+    ensures living { EndsInOrder (E.count _engine.now) (E.act _engine.now) (E.Good _engine.now) (E.nought _engine.now) (E.Stands _engine.now) }
+{}
+
+/// The rows of a run, its live words in order whose weight isn't zero, are those of the plan: in the order of the text, and
+/// under every legal schedule the same.
+pub fn rows<E: Meaning>(_engine: &E)
+    ensures text { TextRows (E.told _engine.now) (E.count _engine.now) (E.act _engine.now) (E.Good _engine.now) (E.Stands _engine.now) (E.weigh _engine.now) (E.weight _engine.now) (E.zero _engine.now) }
+    ensures schedules { ScheduleRows (E.told _engine.now) (E.count _engine.now) (E.act _engine.now) (E.Good _engine.now) (E.Stands _engine.now) (E.weigh _engine.now) (E.weight _engine.now) (E.zero _engine.now) }
+{}
