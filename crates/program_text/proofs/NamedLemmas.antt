@@ -1,6 +1,6 @@
 -- The named outcomes of the first measurements.
-use Rattle.std.proofs.Common.{◌≡◌, ℕ, ◌+◌, ◌<◌, ◌≤◌, List, [], ◌∷◌, ◌++◌, Bool, true, false, ◌&&◌, ◌||◌, ◌==◌, refl, sym, ap, subst, ◌∙◌, arith, append_assoc, if◌then◌else◌, Option, Some, None}
-use Rattle.std.specs.Prelude.{nat_lt, unwrap_or}
+use Rattle.std.proofs.Common.{◌≡◌, ℕ, ◌+◌, ◌<◌, ◌≤◌, List, [], ◌∷◌, ◌++◌, Bool, true, false, ◌||◌, ◌==◌, refl, sym, ap, subst, ◌∙◌, arith, append_assoc, if◌then◌else◌, Option, Some, None}
+use Rattle.std.specs.Prelude.{nat_lt}
 use Rattle.std.specs.List.{AllByRecursion}
 use Rattle.std.specs.Str.{bytes_eq}
 use Rattle.std.proofs.lemmas.Bool.Decides.{nat_tests}
@@ -47,9 +47,10 @@ not_given (x ∷ xs) ys o name e = not_given xs ys o name (second (bytes_eq x.na
 
 behind_all : (measured : ℕ) (xs ys os : List ProgramOutcome) (o : ProgramOutcome) → AreOutcomes measured (xs ++ o ∷ ys) os → AllByRecursion (IsBehind o) os
 behind_all measured xs ys [] o are = tt
-behind_all measured xs ys (p ∷ os) o are =
-    ((all_at (λ e. e.place < p.place) xs ys o are.2, not_given xs ys o p.name are.1),
-    behind_all measured xs (ys ++ p ∷ []) os o (subst (λ (b : List ProgramOutcome). AreOutcomes measured b os) (append_assoc xs (o ∷ ys) (p ∷ [])) are.4))
+behind_all measured xs ys (p ∷ os) o are = (
+  (all_at (λ e. e.place < p.place) xs ys o are.2, not_given xs ys o p.name are.1),
+  behind_all measured xs (ys ++ p ∷ []) os o (subst (λ (b : List ProgramOutcome). AreOutcomes measured b os) (append_assoc xs (o ∷ ys) (p ∷ [])) are.4),
+)
 
 pub sorted : (measured : ℕ) (before os : List ProgramOutcome) → AreOutcomes measured before os → AreSorted os
 sorted measured before [] are = tt
