@@ -1,6 +1,6 @@
 -- A written start line is read again.
-use Rattle.std.proofs.Common.{◌≡◌, ℕ, ◌+◌, ◌<◌, ◌≤◌, List, [], ◌∷◌, ◌++◌, Bool, true, false, ◌&&◌, length, refl, sym, ap, ◌∙◌, arith, append_assoc, codes, if◌then◌else◌, Option, Some, Result, Ok, Err}
-use Rattle.std.specs.Prelude.{nat_le, nat_lt, unwrap_or}
+use Rattle.std.proofs.Common.{◌≡◌, ℕ, ◌<◌, List, [], ◌∷◌, ◌++◌, Bool, true, false, ◌&&◌, length, refl, sym, ap, ◌∙◌, arith, append_assoc, codes, if◌then◌else◌, Ok}
+use Rattle.std.specs.Prelude.{nat_le, nat_lt}
 use Rattle.std.specs.List.{onto_first, flat_map}
 use Rattle.std.specs.Str.{bytes_eq}
 use Rattle.std.proofs.lemmas.Bool.Decides.{nat_tests}
@@ -12,14 +12,13 @@ use Rattle.fusion_rules.proofs.FoundLemmas.{label_again, name_at}
 use Rattle.fusion_rules.proofs.NameLemmas.{spelled}
 use Rattle.tree_shapes.specs.Labelled.{Labelled, Strand, Joined, size}
 use Rattle.tree_shapes.specs.declared.limits.TheConstants.{STRAND_LIMIT}
-use Rattle.program_text.specs.declared.fault.ProgramCause.{ProgramCause}
 use Rattle.program_text.specs.declared.piece.Piece.{Piece}
 use Rattle.program_text.specs.declared.piece.Piece.TheVariants.{Open, Close, Colon, Label}
 use Rattle.program_text.specs.Canonical.{opened, closed, tree_words}
 use Rattle.program_text.specs.Form.{labels_below}
 use Rattle.program_text.specs.Grammar.{start_of, tree_in}
 use Rattle.program_text.specs.Steps.{◌>>=◌}
-use Rattle.program_text.specs.Trees.{begins_label, runs_of, number_of, piece_of, pieces_onto, tree_of, tree_pieces}
+use Rattle.program_text.specs.Trees.{begins_label, runs_of, piece_of, pieces_onto, tree_of, tree_pieces}
 use Rattle.program_text.specs.WellFormed.{IsAdmittedStart}
 use Rattle.program_text.proofs.GapLemmas.{good_none}
 use Rattle.program_text.proofs.TreeLemmas.{tree_again}

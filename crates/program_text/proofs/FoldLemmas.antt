@@ -1,18 +1,15 @@
 -- Written command lines are read again, one after another.
-use Rattle.std.proofs.Common.{◌≡◌, ◌⊎◌, inl, inr, ℕ, ◌+◌, ◌^◌, ◌<◌, ◌≤◌, List, [], ◌∷◌, ◌++◌, Bool, true, false, not, ◌&&◌, ◌||◌, ◌==◌, length, refl, sym, ap, subst, ◌∙◌, arith, append_assoc, codes, if◌then◌else◌, Option, Some, None, Result, Ok, Err}
-use Rattle.std.specs.Prelude.{nat_le, nat_lt, unwrap_or}
-use Rattle.std.specs.List.{AllByRecursion, flat_map}
+use Rattle.std.proofs.Common.{◌≡◌, ℕ, ◌+◌, ◌^◌, ◌<◌, ◌≤◌, List, [], ◌∷◌, ◌++◌, true, false, length, refl, sym, ap, subst, ◌∙◌, arith, append_assoc, codes, Option, Some, None, Result, Ok}
+use Rattle.std.specs.Prelude.{nat_lt, unwrap_or}
+use Rattle.std.specs.List.{AllByRecursion}
 use Rattle.std.specs.Fmt.{decimal}
 use Rattle.std.proofs.lemmas.Bool.Decides.{nat_tests}
 use Rattle.std.proofs.lemmas.List.{length-append, append-nil}
-use Rattle.line_text.specs.Spelling.{counted, spaced, all_plain}
-use Rattle.line_text.specs.Text.{Found, words_of, has_word}
-use Rattle.line_text.specs.Plain.{plain_number_of}
+use Rattle.line_text.specs.Spelling.{counted, all_plain}
 use Rattle.line_text.proofs.SpellingLemmas.{words_again}
 use Rattle.line_text.proofs.PlainLemmas.{number_again}
-use Rattle.fusion_rules.specs.Names.{AreNames, is_name, label_of, name_of}
+use Rattle.fusion_rules.specs.Names.{AreNames, label_of, name_of}
 use Rattle.fusion_rules.proofs.FoundLemmas.{label_again}
-use Rattle.tree_shapes.specs.Labelled.{Labelled, leaves, size}
 use Rattle.program_text.specs.declared.fault.ProgramCause.{ProgramCause}
 use Rattle.program_text.specs.declared.form.TheConstants.{COMMAND_LIMIT}
 use Rattle.program_text.specs.declared.plan.Sign.{Sign}
@@ -23,8 +20,8 @@ use Rattle.program_text.specs.declared.plan.Command.TheVariants.{Braid, Raise, M
 use Rattle.program_text.specs.Grammar.{SoFar, are_alike, body_of, command_of_line, has_names, is_given, is_inside, line_of, place_of, strands_behind, with_command}
 use Rattle.program_text.specs.Letters.{gap_in, measurements, outcomes_of}
 use Rattle.program_text.specs.Program.{ProgramOutcome, ProgramSite}
-use Rattle.program_text.specs.Steps.{Fault, ◌>>=◌, on_line}
-use Rattle.program_text.specs.WellFormed.{AreTold, IsGapOf, IsTold, strands_under}
+use Rattle.program_text.specs.Steps.{◌>>=◌, on_line}
+use Rattle.program_text.specs.WellFormed.{AreTold, IsTold, strands_under}
 use Rattle.program_text.specs.Written.{as_words, line_words, lines_from, name_at}
 use Rattle.program_text.proofs.KeptLemmas.{measurements_push, strands_push}
 use Rattle.program_text.proofs.NamedLemmas.{before_of, named_at, AreSorted, one_more, name_is, name_new, name_found}
@@ -121,7 +118,7 @@ module _ (names : List (List ℕ)) (are : AreNames names) (version : ℕ) (start
   no_site s place (Measure k) = refl
   no_site s place (BraidWhen k sign tested label) = refl
 
-  line_read : (s next : SoFar) (words : List (List ℕ)) (number : ℕ) (more : List (List (List ℕ))) → all_plain words ≡ true → line_of names version s words ≡ Ok next
+  pub line_read : (s next : SoFar) (words : List (List ℕ)) (number : ℕ) (more : List (List (List ℕ))) → all_plain words ≡ true → line_of names version s words ≡ Ok next
       → body_of names version s (counted number (words ∷ more)) ≡ body_of names version next (counted (number + 1) more)
   line_read s next words number more plain e =
       ap (λ ws. on_line (number + 1) (line_of names version s ws) >>= λ (t : SoFar). body_of names version t (counted (number + 1) more)) (words_again words plain)

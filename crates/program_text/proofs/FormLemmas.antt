@@ -50,7 +50,7 @@ abbrev site_with : List Command → List ℕ → ℕ → ℕ → ProgramSite
 site_with commands name first last = record { name = name; first = first; last = last; commands = commands }
 
 -- what `main` with all strands is, but for its commands
-main_is : (strands : ℕ) (site : ProgramSite) → is_main strands site ≡ true → site ≡ main_site strands site.commands
+pub main_is : (strands : ℕ) (site : ProgramSite) → is_main strands site ≡ true → site ≡ main_site strands site.commands
 main_is strands site is =
     let name = both (bytes_eq site.name (codes "main")) ((site.first == 1) && (site.last == strands)) is in
     let place = both (site.first == 1) (site.last == strands) name.1 in

@@ -16,3 +16,6 @@ pub mod WrittenLemmas
 pub mod AgainLemmas
 pub mod NamedLemmas
 pub mod FoldLemmas
+pub mod SitesLemmas
+pub mod LineLemmas
+pub mod BackTextLemmas

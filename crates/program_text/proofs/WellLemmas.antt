@@ -1,5 +1,5 @@
 -- What is read is well formed: line after line.
-use Rattle.std.proofs.Common.{◌≡◌, ◌⊎◌, inl, inr, ℕ, ◌+◌, ◌-◌, ◌<◌, ◌≤◌, List, [], ◌∷◌, ◌++◌, Bool, true, false, not, ◌&&◌, ◌||◌, ◌==◌, length, refl, sym, ap, subst, ◌∙◌, arith, if◌then◌else◌, Option, Some, None, Result, Ok, Err, codes}
+use Rattle.std.proofs.Common.{◌≡◌, ◌⊎◌, inl, inr, ℕ, ◌+◌, ◌<◌, ◌≤◌, List, [], ◌∷◌, ◌++◌, Bool, true, false, not, ◌&&◌, ◌||◌, ◌==◌, length, refl, sym, ap, subst, ◌∙◌, arith, if◌then◌else◌, Option, Some, None, Result, Ok, Err, codes}
 use Rattle.std.specs.Prelude.{nat_le, nat_lt, IfOk}
 use Rattle.std.specs.Str.{bytes_eq}
 use Rattle.std.proofs.lemmas.Bool.Decides.{nat_tests}
@@ -60,7 +60,7 @@ pub record IsKept (version count : ℕ) (start : Labelled) (s : SoFar) : Type 0 
   pub tests : AreTold version count s.outcomes (leaves start) [] (commands_in (s.earlier ++ s.current ∷ []))
   pub first_version : version ≡ 1 → s.outcomes ≡ []
 
-length-leaves : (t : Labelled) → length (leaves t) ≡ size t
+pub length-leaves : (t : Labelled) → length (leaves t) ≡ size t
 length-leaves (Strand a) = refl
 length-leaves (Joined l r q) = length-append (leaves l) (leaves r) ∙ (λ j. length-leaves l j + length-leaves r j)
 
@@ -186,8 +186,8 @@ form_allowed version words kind e = by_words (has_word words 0 (codes "braid")) 
     by_words false false true e = measure_by (length words == 2) (has_names version) (length words == 4 && has_word words 2 (codes "as")) refl e
     by_words false false false e = absurd (cc)
 
-long_behind : (strands : List ℕ) (c : Command) → length (strands_behind strands c) ≡ length strands
-long_behind strands (Braid k sign) = length-swap strands (k - 1) k
+pub long_behind : (strands : List ℕ) (c : Command) → length (strands_behind strands c) ≡ length strands
+long_behind strands (Braid k sign) = length-swap strands _ _
 long_behind strands (Raise k) = refl
 long_behind strands (Measure k) = refl
 long_behind strands (BraidWhen k sign place label) = refl

@@ -31,7 +31,7 @@ pub record IsWord (word : List ℕ) (most : ℕ) : Type 0 where
   pub plain : is_plain_word word ≡ true
   pub short : length word ≤ most
 
-name_word : (word : List ℕ) → is_name word ≡ true → IsWord word 8
+pub name_word : (word : List ℕ) → is_name word ≡ true → IsWord word 8
 name_word word e = let s = spelled word e in record { plain = some_word word (name_bytes word s.0) s.2; short = s.1 }
 
 pub label_word : (names : List (List ℕ)) (a : ℕ) → AreNames names → a < length names → IsWord (name_of names a) 8

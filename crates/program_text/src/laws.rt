@@ -1,4 +1,4 @@
-ghost use Rattle.program_text.specs.Laws.{AllWellFormed, CombSound, CombComplete, CombOneText};
+ghost use Rattle.program_text.specs.Laws.{AllWellFormed, CombSound, CombComplete, CombOneText, ProgramsAgain, ProgramsOneText};
 ghost use Rattle.program_text.specs.Trees.{TreeAgain, TreeExact};
 
 /// A comb program that is read has the form and its text is the canonical one; the canonical text of each comb
@@ -15,7 +15,10 @@ pub fn tree_grammar()
     ensures exact { TreeExact }
 {}
 
-/// What a text says is well formed.
+/// What a text says is well formed; the canonical text of a well formed program is read to this program; and two well
+/// formed programs never have one text.
 pub fn program_texts()
     ensures well_formed { AllWellFormed }
+    ensures again { ProgramsAgain }
+    ensures one_text { ProgramsOneText }
 {}
