@@ -1,3 +1,4 @@
 pub mod EntryLemmas
+pub mod RowLemmas
 pub mod StepLemmas
 mod Worked

@@ -1,14 +1,18 @@
 -- Worked values: entries, steps, paths and runs, on the Fibonacci category and on symbols with numbers of their own at some
 -- indices and one elsewhere. The expected values were worked out by hand.
-use Rattle.std.specs.Prelude.{◌≡◌, ◌+ℤ◌, ℕ, true, false, List, [], ◌∷◌, Some, None, nat_abs, nat_lt, refl}
-use Rattle.symbol_table.proofs.Fib.{Whole5, fib, held5, inverse_golden, numbered, ring5, whole}
+use Rattle.std.specs.Prelude.{◌&&◌, not, pos, negsuc, Ok, Err, ◌≡◌, ◌+ℤ◌, ℕ, true, false, List, [], ◌∷◌, Some, None, nat_abs, nat_lt, refl}
+use Rattle.symbol_table.proofs.Fib.{fib_given, num, Whole5, fib, held5, inverse_golden, numbered, ring5, whole}
 use Rattle.symbol_table.specs.Symbols.{Symbols, symbols_of}
 use Rattle.tree_shapes.specs.Outlines.{Outline, Tip, Branch}
 use Rattle.word_runs.specs.Told.{Told}
 use Rattle.word_runs.specs.declared.engine.Step.TheVariants.{Raise, Exchange}
+use Rattle.word_runs.specs.declared.fault.RunStop.TheVariants.{Overflow}
+use Rattle.program_text.specs.declared.plan.Command.TheVariants.{Braid, Measure, Raise as Raised}
 use Rattle.program_text.specs.declared.plan.Sign.TheVariants.{Plus}
+use Rattle.comb_laws.proofs.Fib.{short, spread}
 use Rattle.amp_store.specs.Amplitudes.{amplitude_of}
 use Rattle.recouple.specs.States.{State}
+use Rattle.runner.specs.Evaluated.{ends_of, evaluation_of}
 use Rattle.runner.specs.Trees.{entries_of, raise_fits, stepped_at, tree_told}
 
 abbrev two_left : Outline
@@ -87,3 +91,29 @@ split_in_two = refl
 
 counted : (told 3).entries on_left ≡ 3
 counted = refl
+
+-- (t (t t):1):t weighs 1/phi; measured at its first two strands, after the raise of the right node, each label has the
+-- amplitude 1/phi, and the labels weigh 1/phi^3 and 1/phi^2
+measured_across : evaluation_of fib spread (Measure 1 ∷ [])
+    ≡ Ok (record { total = inverse_golden; rows = (0 ∷ [], num (negsuc 2) (pos 0) (negsuc 1) (negsuc 1)) ∷ (1 ∷ [], num (pos 2) (pos 0) (pos 1) (pos 1)) ∷ [] })
+measured_across = refl
+
+-- its own pair has one label alone, and finds it again after a raise and back
+measured_twice : evaluation_of fib spread (Measure 2 ∷ Raised 2 ∷ Measure 2 ∷ []) ≡ Ok (record { total = inverse_golden; rows = (0 ∷ 0 ∷ [], inverse_golden) ∷ [] })
+measured_twice = refl
+
+-- from ((t t):1 t):t, a braid at the other pair keeps the total
+braided_across : evaluation_of fib short (Raised 1 ∷ Braid 2 Plus ∷ []) ≡ Ok (record { total = inverse_golden; rows = ([], inverse_golden) ∷ [] })
+braided_across = refl
+
+-- the Fibonacci category over the ring without a product of 1/phi with itself: no item of the total or of the measurement
+-- has it, and each weight does, in the turn after the one command
+abbrev without_square : Symbols Whole5
+without_square = symbols_of (record ring5 { product_fits = λ x y. not (held5.equal x inverse_golden && held5.equal y inverse_golden) }) held5 fib_given
+
+weights_stop : ((ends_of without_square short (Measure 2 ∷ []) ≡ ends_of fib short (Measure 2 ∷ [])) × (evaluation_of without_square short (Measure 2 ∷ []) ≡ Err (Overflow 2)))
+weights_stop = (refl, refl)
+
+-- over a ring without sums the total stops before any command
+total_stops : evaluation_of (symbols_of (record ring5 { sum_fits = λ x y. false }) held5 fib_given) short (Measure 2 ∷ []) ≡ Err (Overflow 0)
+total_stops = refl

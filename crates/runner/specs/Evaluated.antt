@@ -1,5 +1,5 @@
 -- The total and the rows of a tree and its commands, evaluated.
-use Rattle.std.specs.Prelude.{ℕ, ◌+◌, List, [], ◌∷◌, ◌++◌, Option, Some, None, length, if◌then◌else◌, Result, Ok}
+use Rattle.std.specs.Prelude.{ℕ, ◌+◌, List, [], ◌∷◌, ◌++◌, Option, Some, length, if◌then◌else◌, Result, Ok}
 use Rattle.ring_laws.specs.Ring.{Ring}
 use Rattle.ring_laws.specs.Stated.{◌>>=◌, steps_over}
 use Rattle.symbol_table.specs.Symbols.{Symbols}

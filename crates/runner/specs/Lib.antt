@@ -1,3 +1,4 @@
 pub mod Evaluated
+pub mod Rows
 pub mod Shapes
 pub mod Trees

@@ -3,12 +3,16 @@
 //! Glossary:
 //! - *entries*: the keys whose number isn't zero, in their order, each with its number (`specs/Trees.antt`).
 //! - *stated evaluation*: what a raise, an exchange and a measurement make of a state, and which items of it have to fit
-//!   (`specs/Trees.antt`); runs of words over such states are those of `word_runs`.
+//!   (`specs/Trees.antt`), and which weights follow (`specs/Evaluated.antt`); runs of words over such states are those of
+//!   `word_runs`.
+//! - *row*: a word of outcomes and its weight ([`Row`]).
 #![tactic(auto)]
 
 mod engine;
+mod rows;
 mod run;
 mod steps;
 
 pub use engine::TreeEngine;
+pub use rows::{Row, Rows, run_rows};
 pub use run::run_states;

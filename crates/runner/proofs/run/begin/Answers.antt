@@ -1,4 +1,4 @@
-use Rattle.std.proofs.Common.{◌≡◌, ◌∙◌, length, ap}
+use Rattle.std.proofs.Common.{◌∙◌, length, ap}
 use Rattle.tree_shapes.specs.Views.{labelled}
 use Rattle.comb_laws.proofs.StartLemmas.{length-leaves}
 use Rattle.runner.proofs.run.begin.Goals as goal
