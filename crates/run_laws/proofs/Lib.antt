@@ -15,3 +15,4 @@ pub mod RowLemmas
 mod Witness
 mod Worked
 pub mod ProgramLemmas
+pub mod CombVectors
