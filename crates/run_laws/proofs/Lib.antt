@@ -16,3 +16,4 @@ mod Witness
 mod Worked
 pub mod ProgramLemmas
 pub mod CombVectors
+pub mod ExactEnds

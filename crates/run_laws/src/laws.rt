@@ -4,10 +4,10 @@ ghost use Rattle.symbol_table.specs.Category.{symbols};
 ghost use Rattle.run_laws.specs.Combs.{AreCombVectors, CombsCommuteFar, ExchangesLeaveSome};
 ghost use Rattle.run_laws.specs.Meaning.{TextEnds};
 ghost use Rattle.run_laws.specs.Programs.{ProgramsMayRun};
-ghost use Rattle.run_laws.specs.Rows.{EndsInOrder, ScheduleRows, SortedEnds, TextRows, WordsAreAll};
+ghost use Rattle.run_laws.specs.Rows.{EndsInOrder, ScheduleRows, ScheduleWords, SortedEnds, TextRows, TextWords, WordsAreAll};
 ghost use Rattle.run_laws.specs.Schedules.{EverySchedule, ScheduleEnds, SchedulesMeasureEach, TextIsSchedule, TextMeasuresEach};
 
-use crate::meaning::Meaning;
+use crate::meaning::{Exact, Meaning};
 use ring_laws::StarRing;
 use symbol_table::Category;
 
@@ -50,6 +50,13 @@ pub fn live_words<E: Meaning>(_engine: &E)
 pub fn order<E: Meaning>(_engine: &E)
     ensures sorted { SortedEnds (E.count _engine.now) (E.act _engine.now) (E.Good _engine.now) (E.nought _engine.now) (E.Stands _engine.now) }
     ensures living { EndsInOrder (E.count _engine.now) (E.act _engine.now) (E.Good _engine.now) (E.nought _engine.now) (E.Stands _engine.now) }
+{}
+
+/// Where the engine makes nothing zero, the live words in order are exactly the words whose vector isn't zero: in the order
+/// of the text, and under every legal schedule the same.
+pub fn living<E: Exact>(_engine: &E)
+    ensures text { TextWords (E.told _engine.now) (E.count _engine.now) (E.act _engine.now) (E.Good _engine.now) (E.nought _engine.now) (E.Stands _engine.now) }
+    ensures schedules { ScheduleWords (E.told _engine.now) (E.count _engine.now) (E.act _engine.now) (E.Good _engine.now) (E.nought _engine.now) (E.Stands _engine.now) }
 {}
 
 /// The rows of a run, its live words in order whose weight isn't zero, are those of the plan: in the order of the text, and
