@@ -15,3 +15,5 @@ pub mod RowLemmas
 mod Witness
 mod Worked
 pub mod ProgramLemmas
+pub mod CombVectors
+pub mod ExactEnds

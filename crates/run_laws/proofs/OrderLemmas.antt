@@ -236,7 +236,7 @@ sorted_words count (suc m) =
     (in_order (λ q. map (λ word. q ∷ word) (words count m)) (λ n. sorted_put n (words count m) (sorted_words count m)) (λ n. starts_put n (words count m)) count).sorted
 
 -- the labels below n
-in_labels : (n q : ℕ) → q < n → IsIn q (labels n)
+pub in_labels : (n q : ℕ) → q < n → IsIn q (labels n)
 in_labels zero q h = absurd (omega arith)
 in_labels (suc n) q h = elim (leb_tells n q) [
   | inl last ↦ in_second q (labels n) (n ∷ []) (inl (let high : n ≤ q = last.1 in omega arith))
@@ -255,7 +255,7 @@ labels_in (suc n) q h = elim (in_append q (labels n) (n ∷ []) h) [
   | inr last ↦ elim last [ inl e ↦ omega arith | inr none ↦ absurd none ]
 ]
 
-in_flat : {A B : Type 0} (f : A → List B) (y : B) (x : A) (xs : List A) → IsIn x xs → IsIn y (f x) → IsIn y (flat_map f xs)
+pub in_flat : {A B : Type 0} (f : A → List B) (y : B) (x : A) (xs : List A) → IsIn x xs → IsIn y (f x) → IsIn y (flat_map f xs)
 in_flat f y x [] h k = absurd h
 in_flat f y x (z ∷ zs) (inl e) k = in_first y (f z) (flat_map f zs) (subst (λ w. IsIn y (f w)) e k)
 in_flat f y x (z ∷ zs) (inr h) k = in_second y (f z) (flat_map f zs) (in_flat f y x zs h k)

@@ -1,3 +1,4 @@
+pub mod Combs
 pub mod Meaning
 pub mod Programs
 pub mod Rows

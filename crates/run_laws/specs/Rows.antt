@@ -1,5 +1,5 @@
 -- Words in the order of lists of labels, and the rows of a run.
-use Rattle.std.specs.Prelude.{◌≡◌, ℕ, Bool, true, not, List, [], map, Option, Some, None, Ok, IsPermutation, IsSortedByKey}
+use Rattle.std.specs.Prelude.{◌≡◌, ℕ, Bool, true, false, not, List, [], map, Option, Some, None, Ok, IsPermutation, IsSortedByKey}
 use Rattle.std.specs.List.{AllByRecursion, filter}
 use Rattle.std.specs.List.Sorted.{IsStrictlySortedBy}
 use Rattle.std.specs.Ordering.{nat_cmp}
@@ -47,6 +47,25 @@ EndsInOrder {M} {V} count act Good nought Stands =
     (m : ℕ) (ls : List Letter) (v : V) (live : List (Live M))
     → AreEnds count m act Good nought (StandsAlive nought Stands) ls v live → IsStrictlySortedBy word_cmp (words_of live)
     → words_of live ≡ living_words count m act nought ls v
+
+-- Where the engine makes nothing zero, the live words in order are exactly the words whose vector isn't zero: in the order
+-- of the text,
+abbrev pub TextWords : {M T V : Type 0} → Told M T → ℕ → Acts V → (V → Type 0) → (V → Bool) → (M → V → Type 0) → Type 0
+TextWords {M} {T} {V} e count act Good nought Stands =
+    (commands : List Command) (s : M) (v : V) (live sorted : List (Live M))
+    → AllByRecursion (λ l. IsGap e (gap_of l)) (letters 0 commands) → is_timely [] (letters 0 commands) ≡ true
+    → Good v → Stands s v → nought v ≡ false
+    → run_of e 1 (letters 0 commands) (start_word (measurements commands) s) ≡ Ok live → IsPermutation live sorted → IsSortedByKey (λ l. l.word) word_cmp sorted
+    → words_of sorted ≡ living_words count (measurements commands) act nought (letters 0 commands) v
+
+-- and under every legal schedule.
+abbrev pub ScheduleWords : {M T V : Type 0} → Told M T → ℕ → Acts V → (V → Type 0) → (V → Bool) → (M → V → Type 0) → Type 0
+ScheduleWords {M} {T} {V} e count act Good nought Stands =
+    (ranges : List Range) (sites : List (List Command)) (schedule : List ℕ) (s : M) (v : V) (live sorted : List (Live M))
+    → AreApart e.strands ranges (site_letters 0 sites) → IsSchedule (site_letters 0 sites) schedule → is_timely [] (turns (site_letters 0 sites) schedule) ≡ true
+    → Good v → Stands s v → nought v ≡ false
+    → run_of e 1 (turns (site_letters 0 sites) schedule) (start_word (measurements (in_text sites)) s) ≡ Ok live → IsPermutation live sorted → IsSortedByKey (λ l. l.word) word_cmp sorted
+    → words_of sorted ≡ living_words count (measurements (in_text sites)) act nought (letters 0 (in_text sites)) v
 
 -- What weighing owes: the weight of a state is that of the vector that it stands for, where it fits, and zero has the
 -- weight zero.

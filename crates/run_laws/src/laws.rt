@@ -1,11 +1,15 @@
 //! What is proved of texts, of schedules and of the live words of every faithful engine.
 
+ghost use Rattle.symbol_table.specs.Category.{symbols};
+ghost use Rattle.run_laws.specs.Combs.{AreCombVectors, CombsCommuteFar, ExchangesLeaveSome};
 ghost use Rattle.run_laws.specs.Meaning.{TextEnds};
 ghost use Rattle.run_laws.specs.Programs.{ProgramsMayRun};
-ghost use Rattle.run_laws.specs.Rows.{EndsInOrder, ScheduleRows, SortedEnds, TextRows, WordsAreAll};
+ghost use Rattle.run_laws.specs.Rows.{EndsInOrder, ScheduleRows, ScheduleWords, SortedEnds, TextRows, TextWords, WordsAreAll};
 ghost use Rattle.run_laws.specs.Schedules.{EverySchedule, ScheduleEnds, SchedulesMeasureEach, TextIsSchedule, TextMeasuresEach};
 
-use crate::meaning::Meaning;
+use crate::meaning::{Exact, Meaning};
+use ring_laws::StarRing;
+use symbol_table::Category;
 
 /// Text order is a legal schedule, whose turns are the letters of the whole text.
 pub fn text_order()
@@ -48,9 +52,27 @@ pub fn order<E: Meaning>(_engine: &E)
     ensures living { EndsInOrder (E.count _engine.now) (E.act _engine.now) (E.Good _engine.now) (E.nought _engine.now) (E.Stands _engine.now) }
 {}
 
+/// Where the engine makes nothing zero, the live words in order are exactly the words whose vector isn't zero: in the order
+/// of the text, and under every legal schedule the same.
+pub fn living<E: Exact>(_engine: &E)
+    ensures text { TextWords (E.told _engine.now) (E.count _engine.now) (E.act _engine.now) (E.Good _engine.now) (E.nought _engine.now) (E.Stands _engine.now) }
+    ensures schedules { ScheduleWords (E.told _engine.now) (E.count _engine.now) (E.act _engine.now) (E.Good _engine.now) (E.nought _engine.now) (E.Stands _engine.now) }
+{}
+
 /// The rows of a run, its live words in order whose weight isn't zero, are those of the plan: in the order of the text, and
 /// under every legal schedule the same.
 pub fn rows<E: Meaning>(_engine: &E)
     ensures text { TextRows (E.told _engine.now) (E.count _engine.now) (E.act _engine.now) (E.Good _engine.now) (E.Stands _engine.now) (E.weigh _engine.now) (E.weight _engine.now) (E.zero _engine.now) }
     ensures schedules { ScheduleRows (E.told _engine.now) (E.count _engine.now) (E.act _engine.now) (E.Good _engine.now) (E.Stands _engine.now) (E.weigh _engine.now) (E.weight _engine.now) (E.zero _engine.now) }
+{}
+
+/// What an engine whose states stand for comb vectors needs of these alone: operators keep them and make zero of zero, and
+/// zero has the weight zero; far commutation, where it holds of lists of strands, is one of comb vectors; and an exchange
+/// that can be undone makes nothing zero. The rows that follow from the words' weights are the rows of the plan.
+///
+/// It rests on the laws of the ring, and on no equation of the category.
+pub fn comb_vectors<R: StarRing>(_category: &Category<R>)
+    ensures vectors { AreCombVectors (symbols R.StarRing _category.now) }
+    ensures far { CombsCommuteFar (symbols R.StarRing _category.now) }
+    ensures some { ExchangesLeaveSome (symbols R.StarRing _category.now) }
 {}

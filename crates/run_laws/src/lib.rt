@@ -18,4 +18,4 @@
 pub mod laws;
 mod meaning;
 
-pub use meaning::Meaning;
+pub use meaning::{Exact, Meaning};

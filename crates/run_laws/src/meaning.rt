@@ -1,7 +1,7 @@
 ghost use Rattle.std.specs.Prelude.{◌≡◌, ℕ, Bool, Option};
 ghost use Rattle.comb_laws.specs.Words.{Acts};
 ghost use Rattle.word_runs.specs.Told.{Told, AreShapes};
-ghost use Rattle.run_laws.specs.Meaning.{IsFaithful};
+ghost use Rattle.run_laws.specs.Meaning.{IsFaithful, IsExact};
 ghost use Rattle.run_laws.specs.Rows.{IsWeighing};
 ghost use Rattle.run_laws.specs.Schedules.{CommuteFar};
 
@@ -48,4 +48,9 @@ pub trait Meaning: Drop {
     ghost far: { (e : Self) → CommuteFar (told e).strands (act e) (Good e) };
 
     ghost weighing: { (e : Self) → IsWeighing (Good e) (nought e) (Stands e) (weigh e) (weight e) (zero e) };
+}
+
+/// An engine that makes nothing zero: exchanges can be undone, and no part has a projection that is zero.
+pub trait Exact: Meaning {
+    ghost exact: { (e : Self) → IsExact (Self.Meaning.told e) (Self.Meaning.act e) (Self.Meaning.Good e) (Self.Meaning.nought e) (Self.Meaning.Stands e) };
 }
