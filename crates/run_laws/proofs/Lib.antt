@@ -12,7 +12,6 @@ pub mod LetterPlaces
 pub mod ExactLemmas
 pub mod OrderLemmas
 pub mod RowLemmas
-mod Witness
 mod Worked
 pub mod ProgramLemmas
 pub mod CombVectors

@@ -19,3 +19,6 @@ pub mod laws;
 mod meaning;
 
 pub use meaning::{Exact, Meaning};
+
+#[cfg(test)]
+mod tests;

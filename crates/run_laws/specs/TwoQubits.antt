@@ -12,10 +12,9 @@ use Rattle.comb_laws.specs.declared.operator.Operator.TheVariants as operator
 use Rattle.word_runs.specs.Told.{Told, IsGap, AreShapes, after_step, after_raises}
 use Rattle.word_runs.specs.declared.engine.Step.{Step}
 use Rattle.word_runs.specs.declared.engine.Step.TheVariants.{Raise, Exchange}
-use Rattle.run_laws.specs.Meaning.{IsIn, AreDistinct, ArePartsOf, IsFaithful, IsExact, StandsAlive}
+use Rattle.run_laws.specs.Meaning.{IsIn, AreDistinct, ArePartsOf, IsFaithful, IsExact}
 use Rattle.run_laws.specs.Rows.{IsWeighing}
 use Rattle.run_laws.specs.Schedules.{CommuteFar}
-use Rattle.run_laws.proofs.ExactLemmas.{exact_is_faithful}
 
 -- The amplitudes of the charges 0 and 1.
 pub record Qubit : Type 0 where
@@ -226,9 +225,6 @@ two_exact = record {
       (subst (λ w. AllByRecursion (λ (part : ℕ × Pair). two_nought (two_acts k (operator.Project part.0) w) ≡ false) (parts_of k s)) h
       (some_by (λ q. two_acts k (operator.Project q) s.vector) s.gap (two_nought (two_acts k (operator.Project 0) s.vector)) (two_nought (two_acts k (operator.Project 1) s.vector)) refl refl));
 }
-
-pub two_alive : IsFaithful two_told 2 two_acts (λ v. Unit {0}) two_nought (StandsAlive two_nought stands)
-two_alive = exact_is_faithful two_told 2 two_acts (λ v. Unit {0}) two_nought stands two_faithful two_exact
 
 pub two_far : CommuteFar 4 two_acts (λ v. Unit {0})
 two_far = record { keeps = λ k o v low high good. tt; far = λ i j first second v low apart high good. far i j first second v low apart high }
