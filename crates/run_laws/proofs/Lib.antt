@@ -12,7 +12,8 @@ pub mod LetterPlaces
 pub mod ExactLemmas
 pub mod OrderLemmas
 pub mod RowLemmas
-mod Worked
+pub mod Worked
+mod AllPremises
 pub mod ProgramLemmas
 pub mod CombVectors
 pub mod ExactEnds

@@ -23,11 +23,11 @@ alive = exact_is_faithful two_told 2 two_acts (λ v. Unit {0}) two_nought stands
 
 -- Two sites: the first turns its qubit over and measures it; the second turns its own over where the first one's outcome
 -- is 1, and measures it.
-abbrev sites : List (List Command)
+abbrev pub sites : List (List Command)
 sites = (Braid 1 Plus ∷ Measure 1 ∷ []) ∷ (Raise 3 ∷ BraidWhen 3 Minus 0 1 ∷ Measure 3 ∷ []) ∷ []
 
 -- the amplitudes 2 and 3 of the first qubit, and 5 and 0 of the second
-abbrev start : Two
+abbrev pub start : Two
 start = record { first = record { none = 2; one = 3 }; second = record { none = 5; one = 0 } }
 
 places_count_on : site_letters 0 sites ≡ (Crossing 1 Plus ∷ Charge 1 0 ∷ []) ∷ (Still 3 ∷ Tested 3 Minus 0 1 ∷ Charge 3 1 ∷ []) ∷ []
