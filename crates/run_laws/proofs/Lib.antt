@@ -17,3 +17,4 @@ mod AllPremises
 pub mod ProgramLemmas
 pub mod CombVectors
 pub mod ExactEnds
+pub mod TextRises

@@ -160,7 +160,7 @@ distinct_permutation xs ys p d =
 nat_cmp_less : (a b : ℕ) → a < b → nat_cmp a b ≡ Less
 nat_cmp_less a b h = sym (nat_cmp_is a b Less h)
 
-nat_cmp_same : (a : ℕ) → nat_cmp a a ≡ Equal
+pub nat_cmp_same : (a : ℕ) → nat_cmp a a ≡ Equal
 nat_cmp_same a = sym (nat_cmp_is a a Equal refl)
 
 -- begins with a label below n
