@@ -2,6 +2,7 @@
 -- site.
 use Rattle.std.proofs.Common.{◌≡◌, ℕ, zero, suc, ◌<◌, false, inl, List, [], ◌∷◌, refl, ◌∙◌, arith}
 use Rattle.std.specs.Prelude.{◌==◌, Some, IsSortedByKey}
+use Rattle.std.specs.List.Sorted.{IsStrictlySortedBy}
 use Rattle.std.proofs.lemmas.Bool.Decides.{nat_tests}
 use Rattle.std.proofs.lemmas.List.Sorted.{IsPermutation-refl}
 use Rattle.program_text.specs.Letters.{letters}
@@ -10,10 +11,11 @@ use Rattle.run_laws.specs.Rows.{word_cmp, AreRows, living_words, rows_of_plan}
 use Rattle.run_laws.specs.Meaning.{words_of}
 use Rattle.run_laws.specs.Schedules.{Range, AreApart, site_letters}
 use Rattle.run_laws.specs.Turns.{in_text, IsSchedule}
-use Rattle.run_laws.specs.TwoQubits.{Pair, stands, two_acts, two_exact, two_faithful, two_far, two_nought, two_shapes, two_told, two_weighing, two_weight}
+use Rattle.run_laws.specs.TwoQubits.{Pair, stands, two_acts, two_exact, two_faithful, two_far, two_nought, two_rising, two_shapes, two_told, two_weighing, two_weight}
 use Rattle.run_laws.proofs.Counts.{count_no}
 use Rattle.run_laws.proofs.ExactEnds.{schedule_words}
 use Rattle.run_laws.proofs.RowLemmas.{schedule_rows}
+use Rattle.run_laws.proofs.TextRises.{text_rises}
 use Rattle.run_laws.proofs.Worked.{sites, start}
 
 abbrev schedule : List ℕ
@@ -76,3 +78,7 @@ right_rows : rows ≡ rows_of_plan 2 2 two_acts two_weight (λ x. x == 0) (lette
 right_rows =
     schedule_rows 2 two_acts (λ v. Unit {0}) two_nought stands (λ (s : Pair). Some (two_weight s.vector)) two_weight (λ x. x == 0) two_weighing two_told two_shapes two_faithful two_far
     ranges sites schedule (record { gap = 2; vector = start }) start ends rows apart legal refl tt refl refl are_rows
+
+-- and in the order of the text they are made in order
+made_in_order : IsStrictlySortedBy word_cmp (words_of ends)
+made_in_order = text_rises two_told two_rising (in_text sites) (record { gap = 2; vector = start }) ends refl
