@@ -5,6 +5,7 @@ use Rattle.std.specs.List.{AllByRecursion}
 use Rattle.std.proofs.Math.ListN.{get_or-eq_default}
 use Rattle.std.proofs.lemmas.List.{get_or-replicate, length-replicate, ext_get_or}
 use Rattle.std.proofs.lemmas.Bool.Decides.{leb_tells}
+use Rattle.comb_laws.proofs.PathFacts.{nat_lt_true}
 use Rattle.comb_laws.specs.Words.{Acts, word_state}
 use Rattle.program_text.specs.Letters.{gap_of, letters, measurements}
 use Rattle.program_text.specs.declared.letter.Letter.{Letter}
@@ -18,7 +19,7 @@ use Rattle.run_laws.specs.Schedules.{Range, IsWithin, AreApart, CommuteFar, Sche
 use Rattle.run_laws.specs.Meaning.{IsFaithful, IsWord, IsFull, AreLiving, AreEnds, TextEnds}
 use Rattle.run_laws.proofs.Apart.{every_schedule}
 use Rattle.run_laws.proofs.Counts.{takes_all}
-use Rattle.run_laws.proofs.LetterPlaces.{lt_true, true_lt, places_below, all_turns, text_measures_each, schedules_measure_each}
+use Rattle.run_laws.proofs.LetterPlaces.{lt_true, places_below, all_turns, text_measures_each, schedules_measure_each}
 use Rattle.run_laws.proofs.RunMeaning.{run_means}
 use Rattle.run_laws.proofs.TextOrder.{letters_of_text}
 
@@ -80,7 +81,7 @@ module _ {M T V : Type 0} (e : Told M T) (shapes : AreShapes e) (count : ℕ) (a
       → Good v → Stands s v → run_of e 1 ls (start_word m s) ≡ Ok live → AreEnds count m act Good nought Stands ls v live
   ends_are m ls s v live gaps each timely good stands ends =
       let known = known_after [] ls in
-      let fit = all_fit m ls gaps (places_below m ls [] timely (λ p on. true_lt p m (sym (each.places p) ∙ on))) in
+      let fit = all_fit m ls gaps (places_below m ls [] timely (λ p on. nat_lt_true p m (sym (each.places p) ∙ on))) in
       let living = run_means e shapes count m act Good nought Stands faithful 1 ls [] (λ w. v) (start_word m s) live fit timely each.once ends (e.shape s, (refl, tt)) (start_living m s v good stands) in
       record {
         good = living.good;

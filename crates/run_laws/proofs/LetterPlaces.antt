@@ -5,6 +5,7 @@ use Rattle.std.specs.Cmp.{both_ways}
 use Rattle.std.specs.List.{AllByRecursion}
 use Rattle.std.specs.Option.{option_to_list}
 use Rattle.std.proofs.lemmas.Bool.Decides.{eqb_tells, nat_tests}
+use Rattle.comb_laws.proofs.PathFacts.{and_true, nat_lt_true}
 use Rattle.ring_laws.proofs.StatedLemmas.{some_inj}
 use Rattle.program_text.specs.Letters.{letter_at, letters, outcomes_of, measurements}
 use Rattle.program_text.specs.declared.plan.Command.{Command}
@@ -20,14 +21,10 @@ use Rattle.run_laws.specs.Schedules.{site_letters, TextMeasuresEach, SchedulesMe
 use Rattle.run_laws.proofs.Exchanges.{TakesAll, all_first, all_second, all_next, all_left}
 use Rattle.run_laws.proofs.Counts.{takes_all}
 use Rattle.run_laws.proofs.PlaceLemmas.{known_here, known_more}
-use Rattle.run_laws.proofs.RunMeaning.{first_true, second_true}
 use Rattle.run_laws.proofs.TextOrder.{letters_of_text}
 
 pub lt_true : (p m : ℕ) → p < m → nat_lt p m ≡ true
 lt_true p m h = grind (arith, nat_tests)
-
-pub true_lt : (p m : ℕ) → nat_lt p m ≡ true → p < m
-true_lt p m h = grind (arith, nat_tests)
 
 eqb_means : (a b : ℕ) → (a == b) ≡ true → a ≡ b
 eqb_means a b h = elim (eqb_tells a b) [ inl y ↦ y.1 | inr n ↦ absurd (let off = n.0 in cc) ]
@@ -231,7 +228,7 @@ measure_each : (m : ℕ) (ls : List Letter) → Pairwise Different ls → AllByR
 measure_each m ls different below all = record {
   once = fresh_letters ls [] different (all_unmade ls);
   places = λ p. both_ways (is_known (known_after [] ls) p) (nat_lt p m)
-      (λ on. lt_true p m (known_below m ls [] below (λ q none. absurd (cc)) p on)) (λ low. known_has p ls [] (all p (true_lt p m low)));
+      (λ on. lt_true p m (known_below m ls [] below (λ q none. absurd (cc)) p on)) (λ low. known_has p ls [] (all p (nat_lt_true p m low)));
 }
 
 -- letters in time read and write only the places that are measured in the end
@@ -240,7 +237,7 @@ places_below m [] known timely low = tt
 places_below m (Crossing k sign ∷ ls) known timely low = (tt, places_below m ls known timely low)
 places_below m (Charge k x ∷ ls) known timely low = (low x (known_kept x ls (x ∷ known) (known_here x known)), places_below m ls (x ∷ known) timely low)
 places_below m (Tested k sign x q ∷ ls) known timely low =
-    (low x (known_kept x ls known (first_true (is_known known x) (is_timely known ls) timely)), places_below m ls known (second_true (is_known known x) (is_timely known ls) timely) low)
+    (low x (known_kept x ls known (and_true (is_known known x) (is_timely known ls) timely).0), places_below m ls known (and_true (is_known known x) (is_timely known ls) timely).1 low)
 places_below m (Still k ∷ ls) known timely low = (tt, places_below m ls known timely low)
 
 -- the places of a text

@@ -12,8 +12,9 @@ pub mod LetterPlaces
 pub mod ExactLemmas
 pub mod OrderLemmas
 pub mod RowLemmas
-mod Witness
-mod Worked
+pub mod Worked
+mod AllPremises
 pub mod ProgramLemmas
 pub mod CombVectors
 pub mod ExactEnds
+pub mod TextRises

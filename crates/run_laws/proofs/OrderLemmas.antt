@@ -13,6 +13,7 @@ use Rattle.std.proofs.lemmas.Cmp.{nat_list_cmp_total}
 use Rattle.std.proofs.lemmas.Grind.{flat_map-append}
 use Rattle.std.proofs.lemmas.Bool.Decides.{leb_tells}
 use Rattle.std.proofs.lemmas.Slice.Eq.{bytes_eq-Decides}
+use Rattle.std.proofs.lemmas.List.{append-nil, get_or-map, length-map}
 use Rattle.std.proofs.lemmas.List.Elements.{recursion_from_All, All-from_recursion}
 use Rattle.std.proofs.lemmas.List.Kept.{IsStrictlySortedBy-filter}
 use Rattle.std.proofs.lemmas.List.Sorted.{ranks_by, sorted_far, All-permutation, IsPermutation-map, list_any-IsPermutation, sum_by-IsPermutation}
@@ -23,7 +24,9 @@ use Rattle.program_text.specs.declared.letter.Letter.{Letter}
 use Rattle.comb_laws.specs.Paths.{labels}
 use Rattle.comb_laws.specs.Plans.{words}
 use Rattle.comb_laws.specs.Words.{Acts, word_state}
+use Rattle.word_runs.specs.Lives.{live_of, lives_of}
 use Rattle.word_runs.specs.Runs.{Live}
+use Rattle.word_runs.specs.declared.live.LiveWord.{LiveWord}
 use Rattle.word_runs.proofs.EachLemmas.{all_append, all_map}
 use Rattle.run_laws.specs.Meaning.{IsIn, AreDistinct, IsFull, words_of, StandsAlive, AreEnds}
 use Rattle.run_laws.specs.Rows.{word_cmp, living_words, WordsAreAll, SortedEnds, EndsInOrder}
@@ -157,7 +160,7 @@ distinct_permutation xs ys p d =
 nat_cmp_less : (a b : ℕ) → a < b → nat_cmp a b ≡ Less
 nat_cmp_less a b h = sym (nat_cmp_is a b Less h)
 
-nat_cmp_same : (a : ℕ) → nat_cmp a a ≡ Equal
+pub nat_cmp_same : (a : ℕ) → nat_cmp a a ≡ Equal
 nat_cmp_same a = sym (nat_cmp_is a a Equal refl)
 
 -- begins with a label below n
@@ -217,17 +220,13 @@ in_order f sorted starts zero = record { sorted = tt; starts = tt }
 in_order f sorted starts (suc n) =
     let before = in_order f sorted starts n in
     let same : flat_map f (labels (suc n)) ≡ flat_map f (labels n) ++ (f n ++ []) = flat_map-append f (labels n) (n ∷ []) in
-    let tail = end (f n) in
+    let tail = append-nil (f n) in
     record {
       sorted = rw (same, tail) (sorted_append n (flat_map f (labels n)) (f n) before.sorted (sorted n) before.starts (starts n));
       starts = rw (same, tail) (all_append (StartsBelow (suc n)) (flat_map f (labels n)) (f n)
           (all_map (StartsBelow n) (StartsBelow (suc n)) (flat_map f (labels n)) (below_more n) before.starts)
           (all_map (StartsAt n) (StartsBelow (suc n)) (f n) (at_below n) (starts n)));
     }
-  where
-    end : (xs : List (List ℕ)) → xs ++ [] ≡ xs
-    end [] = refl
-    end (x ∷ xs) = ap (λ l. x ∷ l) (end xs)
 
 pub sorted_words : (count m : ℕ) → IsStrictlySortedBy word_cmp (words count m)
 unfolding IsStrictlySortedBy
@@ -314,6 +313,19 @@ filter_in {A} test x (y ∷ ys) h = by (test y) refl h (filter_in test x ys)
     by true is (inl e) rest = (inl e, ap test e ∙ is)
     by true is (inr h) rest = let p = rest h in (inr p.0, p.1)
     by false is h rest = let p = rest h in (inr p.0, p.1)
+
+-- items that are sorted by a key of what is made of them
+sorted_map : {A B : Type 0} (f : A → B) (key : B → List ℕ) (xs : List A) → IsSortedByKey (λ x. key (f x)) word_cmp xs → IsSortedByKey key word_cmp (map f xs)
+sorted_map f key [] s = λ k e low high. absurd (omega arith)
+sorted_map {A} {B} f key (x ∷ xs) s = λ k e low high.
+    let long : length (map f (x ∷ xs)) ≡ length (x ∷ xs) = length-map (x ∷ xs) f in
+    let inside : k + 1 < length (x ∷ xs) = omega arith in
+    let here : k < length (x ∷ xs) = omega arith in
+    (λ i. is_lt (word_cmp (key (get_or-map f (x ∷ xs) (k + 1) x e inside i)) (key (get_or-map f (x ∷ xs) k x e here i)))) ∙ s k x low inside
+
+-- so live words of the code that are sorted by their labels are so as they are seen
+pub sorted_lives : {S M : Type 0} (seen : S → M) (xs : List (LiveWord S)) → IsSortedByKey (λ l. l.word.items) word_cmp xs → IsSortedByKey (λ l. l.word) word_cmp (lives_of seen xs)
+sorted_lives {S} {M} seen xs s = sorted_map (live_of seen) (λ (l : Live M). l.word) xs s
 
 pub words_are_all : WordsAreAll
 words_are_all count m = record { rising = sorted_words count m; full = words_in count m; all = in_words count m }

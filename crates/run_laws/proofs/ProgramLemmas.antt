@@ -1,10 +1,12 @@
 -- A well formed program meets what its runs ask of it.
 use Rattle.std.proofs.Common.{◌≡◌, ◌⊎◌, ℕ, ◌+◌, ◌<◌, ◌≤◌, Bool, true, false, not, inl, inr, List, [], ◌∷◌, ◌++◌, refl, ap, sym, subst, ◌∙◌, arith, append_assoc}
-use Rattle.std.specs.Prelude.{◌&&◌, ◌||◌, nat_lt}
+use Rattle.std.specs.Prelude.{◌||◌, nat_lt}
 use Rattle.std.specs.Str.{bytes_eq}
 use Rattle.std.specs.List.{AllByRecursion}
 use Rattle.std.proofs.lemmas.Bool.Decides.{eqb_tells}
 use Rattle.tree_shapes.specs.Labelled.{size}
+use Rattle.ring_laws.proofs.SumLemmas as S
+use Rattle.comb_laws.proofs.PathFacts.{and_true, nat_lt_true}
 use Rattle.program_text.specs.Grammar.{is_apart, all_apart}
 use Rattle.program_text.specs.Letters.{letter_at, letters, measurements, outcomes_of}
 use Rattle.program_text.specs.Program.{ProgramOutcome, ProgramSite}
@@ -16,9 +18,7 @@ use Rattle.run_laws.specs.Programs.{range_of, ranges_of, commands_of, ProgramsMa
 use Rattle.run_laws.specs.Schedules.{Disjoint, IsWithin, AreApart, site_letters}
 use Rattle.run_laws.specs.Timely.{is_known, is_timely}
 use Rattle.run_laws.specs.Turns.{in_text}
-use Rattle.run_laws.proofs.LetterPlaces.{true_lt}
 use Rattle.run_laws.proofs.PlaceLemmas.{known_here, known_more}
-use Rattle.run_laws.proofs.RunMeaning.{first_true, second_true}
 
 -- A letter at a gap of its site is within the site's strands.
 letter_within : (n p : ℕ) (site : ProgramSite) (c : Command) → 1 ≤ site.first → site.last ≤ n → IsGapOf site c → IsWithin n (range_of site) (letter_at p c)
@@ -39,15 +39,15 @@ either false b h = inr h
 apart_disjoint : (site earlier : ProgramSite) → is_apart site.name site.first site.last earlier ≡ true → Disjoint (range_of earlier) (range_of site)
 apart_disjoint site earlier h =
     elim (either (nat_lt site.last earlier.first) (nat_lt earlier.last site.first)
-    (second_true (not (bytes_eq earlier.name site.name)) (nat_lt site.last earlier.first || nat_lt earlier.last site.first) h)) [
-      | inl behind ↦ inr (true_lt site.last earlier.first behind)
-      | inr before ↦ inl (true_lt earlier.last site.first before)
+    (and_true (not (bytes_eq earlier.name site.name)) (nat_lt site.last earlier.first || nat_lt earlier.last site.first) h).1) [
+      | inl behind ↦ inr (nat_lt_true site.last earlier.first behind)
+      | inr before ↦ inl (nat_lt_true earlier.last site.first before)
     ]
 
 apart_among : (site earlier : ProgramSite) (xs ys : List ProgramSite) → all_apart site.name site.first site.last (xs ++ earlier ∷ ys) ≡ true → is_apart site.name site.first site.last earlier ≡ true
-apart_among site earlier [] ys h = first_true (is_apart site.name site.first site.last earlier) (all_apart site.name site.first site.last ys) h
+apart_among site earlier [] ys h = (and_true (is_apart site.name site.first site.last earlier) (all_apart site.name site.first site.last ys) h).0
 apart_among site earlier (x ∷ xs) ys h =
-    apart_among site earlier xs ys (second_true (is_apart site.name site.first site.last x) (all_apart site.name site.first site.last (xs ++ earlier ∷ ys)) h)
+    apart_among site earlier xs ys (and_true (is_apart site.name site.first site.last x) (all_apart site.name site.first site.last (xs ++ earlier ∷ ys)) h).1
 
 later_disjoint : (n : ℕ) (earlier : ProgramSite) (xs ys sites : List ProgramSite) → AreSites n (xs ++ earlier ∷ ys) sites → AllByRecursion (Disjoint (range_of earlier)) (ranges_of sites)
 later_disjoint n earlier xs ys [] are = tt
@@ -71,9 +71,6 @@ known_on m known all p low = elim (eqb_tells m p) [
   | inr other ↦ known_more m p known (all p (let apart : m ≡ p → ⊥ = other.1 in omega arith))
 ]
 
-both_true : (a b : Bool) → a ≡ true → b ≡ true → (a && b) ≡ true
-both_true a b h k = rw (h, k) refl
-
 module _ (version count : ℕ) (outcomes : List ProgramOutcome) (strands : List ℕ) where
   told_timely : (before cs : List Command) (known : List ℕ) → ((p : ℕ) → p < measurements before → is_known known p ≡ true)
       → AreTold version count outcomes strands before cs → is_timely known (letters (measurements before) cs) ≡ true
@@ -88,7 +85,7 @@ module _ (version count : ℕ) (outcomes : List ProgramOutcome) (strands : List 
       ∙ told_timely (before ++ Measure k ∷ []) cs (measurements before ∷ known)
       (λ p low. known_on (measurements before) known all p (let more = measurements_push before (Measure k) in omega (arith, more))) told.1
   told_timely before (BraidWhen k sign place label ∷ cs) known all told =
-      both_true (is_known known place) (is_timely known (letters (measurements before + 0) cs)) (all place told.0.earlier)
+      S.and_yes (is_known known place) (is_timely known (letters (measurements before + 0) cs)) (all place told.0.earlier)
       (ap (λ m. is_timely known (letters m cs)) (sym (measurements_push before (BraidWhen k sign place label)))
       ∙ told_timely (before ++ BraidWhen k sign place label ∷ []) cs known
       (λ p low. all p (let more = measurements_push before (BraidWhen k sign place label) in omega (arith, more))) told.1)

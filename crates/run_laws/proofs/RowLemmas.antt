@@ -16,7 +16,7 @@ use Rattle.run_laws.specs.Schedules.{CommuteFar}
 use Rattle.run_laws.specs.Turns.{in_text}
 use Rattle.run_laws.proofs.EndMeaning.{text_ends, schedule_ends}
 use Rattle.run_laws.specs.Meaning.{IsFull, IsFaithful, AreEnds, words_of}
-use Rattle.run_laws.specs.Rows.{word_cmp, with_weight, weighed, rows_among, rows_of_plan, IsWeighing, RowsOfEnds, TextRows, ScheduleRows}
+use Rattle.run_laws.specs.Rows.{word_cmp, with_weight, weighed, rows_among, rows_of_plan, IsWeighing, RowsInOrder, RowsOfEnds, TextRows, ScheduleRows}
 use Rattle.run_laws.proofs.OrderLemmas.{same_in_order, sorted_words, in_words, words_in, in_filter, filter_in, right_in, sorted_ends}
 
 -- a filter of what is made of each
@@ -75,10 +75,13 @@ module _ {M V W : Type 0} (count m : ℕ) (act : Acts V) (Good : V → Type 0) (
 
 module _ {M V W : Type 0} (count : ℕ) (act : Acts V) (Good : V → Type 0) (nought : V → Bool) (Stands : M → V → Type 0) (weigh : M → Option W) (weight : V → W) (zero : W → Bool)
     (weighing : IsWeighing Good nought Stands weigh weight zero) where
+  pub rows_in_order : RowsInOrder count act Good nought Stands weigh weight zero
+  rows_in_order m ls v live all ends rising fit = counted_rows count m act Good nought Stands weigh weight zero weighing ls v live all ends rising fit
+
   pub rows_of_ends : RowsOfEnds count act Good nought Stands weigh weight zero
   rows_of_ends m ls v live rows ends of =
       let s = sorted_ends count act Good nought Stands m ls v live of.sorted ends of.permutation of.order in
-      of.are ∙ counted_rows count m act Good nought Stands weigh weight zero weighing ls v of.sorted of.all s.0 s.1 of.fit
+      of.are ∙ rows_in_order m ls v of.sorted of.all s.0 s.1 of.fit
 
   module _ {T : Type 0} (e : Told M T) (shapes : AreShapes e) (faithful : IsFaithful e count act Good nought Stands) where
     pub text_rows : TextRows e count act Good Stands weigh weight zero

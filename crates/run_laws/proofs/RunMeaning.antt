@@ -1,7 +1,8 @@
 -- Turn after turn, the live words are exactly the words whose vector isn't zero.
-use Rattle.std.proofs.Common.{◌≡◌, ℕ, ◌+◌, Bool, true, false, List, [], ◌∷◌, Option, Some, None, refl, ap, subst}
-use Rattle.std.specs.Prelude.{Ok, ◌==◌, ◌&&◌}
+use Rattle.std.proofs.Common.{◌≡◌, ℕ, ◌+◌, Bool, true, List, [], ◌∷◌, Option, Some, None, refl, ap, subst}
+use Rattle.std.specs.Prelude.{Ok, ◌==◌}
 use Rattle.std.specs.List.{AllByRecursion}
+use Rattle.comb_laws.proofs.PathFacts.{and_true}
 use Rattle.comb_laws.specs.Words.{Acts, on_word, word_state}
 use Rattle.program_text.specs.declared.plan.Sign.{Sign}
 use Rattle.program_text.specs.declared.letter.Letter.{Letter}
@@ -18,14 +19,6 @@ use Rattle.run_laws.specs.Timely.{is_known, is_timely, known_after, IsFresh}
 use Rattle.run_laws.specs.Meaning.{IsFaithful, AreLiving}
 use Rattle.run_laws.proofs.StepMeaning.{Sees, tested, raise_means, raises_mean, exchange_means}
 use Rattle.run_laws.proofs.SplitMeaning.{split_means}
-
-pub first_true : (a b : Bool) → (a && b) ≡ true → a ≡ true
-first_true true b h = refl
-first_true false b h = absurd (cc)
-
-pub second_true : (a b : Bool) → (a && b) ≡ true → b ≡ true
-second_true true b h = h
-second_true false b h = absurd (cc)
 
 module _ {M T V : Type 0} (e : Told M T) (shapes : AreShapes e) (count m : ℕ) (act : Acts V) (Good : V → Type 0) (nought : V → Bool) (Stands : M → V → Type 0)
     (faithful : IsFaithful e count act Good nought Stands) where
@@ -80,7 +73,7 @@ module _ {M T V : Type 0} (e : Told M T) (shapes : AreShapes e) (count m : ℕ) 
       exchange_turn turn k sign None known vector old new fit.gap (λ w w' same. refl) h alike living
   turn_means turn (Tested k sign p q) ls known vector old new fit timely fresh h alike living =
       exchange_turn turn k sign (Some (record { place = p; label = q })) known vector old new fit.gap
-      (λ w w' same. ap (λ x. x == q) (same p (first_true (is_known known p) (is_timely known ls) timely))) h alike living
+      (λ w w' same. ap (λ x. x == q) (same p (and_true (is_known known p) (is_timely known ls) timely).0)) h alike living
   turn_means turn (Charge k p) ls known vector old new fit timely fresh h alike living =
       let first = ok_first (settled e turn k old) (split_of e turn k p) new h in
       let ready = settle_means turn k known vector old first.0 fit.gap first.1 alike living in
@@ -93,7 +86,7 @@ module _ {M T V : Type 0} (e : Told M T) (shapes : AreShapes e) (count m : ℕ) 
   timely_rest : (l : Letter) (ls : List Letter) (known : List ℕ) → is_timely known (l ∷ ls) ≡ true → is_timely (known_after known (l ∷ [])) ls ≡ true
   timely_rest (Crossing k sign) ls known h = h
   timely_rest (Charge k p) ls known h = h
-  timely_rest (Tested k sign p q) ls known h = second_true (is_known known p) (is_timely known ls) h
+  timely_rest (Tested k sign p q) ls known h = (and_true (is_known known p) (is_timely known ls) h).1
   timely_rest (Still k) ls known h = h
 
   fresh_rest : (l : Letter) (ls : List Letter) (known : List ℕ) → IsFresh known (l ∷ ls) → IsFresh (known_after known (l ∷ [])) ls

@@ -28,6 +28,11 @@ each_same f g h same (x ∷ xs) ys e =
     let p = both_parts (f x) (each f xs) ys e in
     ap (map h) p.is ∙ (λ j. same x p.head p.first j ∷ each_same f g h same xs p.tail p.rest j)
 
+-- a step keeps the words
+pub same_words : {M T : Type 0} (e : Told M T) (test : Option Test) (step : Step) (old new : List (Live M)) → step_words e test step old ≡ Some new → words_of new ≡ words_of old
+same_words e test step old new h =
+    each_same (step_word e test step) (λ l. l.word) (λ l. l.word) (λ l n s. (stepped_by l n (passes test l.word) (e.stepped step l.state) s).0) old new h
+
 module _ {M T V : Type 0} (e : Told M T) (shapes : AreShapes e) (count m : ℕ) (act : Acts V) (Good : V → Type 0) (nought : V → Bool) (Stands : M → V → Type 0)
     (faithful : IsFaithful e count act Good nought Stands) where
   abbrev pub Living : List ℕ → (List ℕ → V) → List (Live M) → Type 0
@@ -45,16 +50,11 @@ module _ {M T V : Type 0} (e : Told M T) (shapes : AreShapes e) (count m : ℕ) 
   abbrev pub Right : List ℕ → (List ℕ → V) → Live M → Type 0
   Right known vector l = IsWord count m known l.word × Stands l.state (vector l.word)
 
-  -- a step keeps the words
-  same_words : (test : Option Test) (step : Step) (old new : List (Live M)) → step_words e test step old ≡ Some new → words_of new ≡ words_of old
-  same_words test step old new h =
-      each_same (step_word e test step) (λ l. l.word) (λ l. l.word) (λ l n s. (stepped_by l n (passes test l.word) (e.stepped step l.state) s).0) old new h
-
   -- a raise of all live words
   pub raise_means : (k : ℕ) (known : List ℕ) (vector : List ℕ → V) (old new : List (Live M)) → IsGap e k → step_words e None (Raise k) old ≡ Some new
       → Living known vector old → Living known vector new
   raise_means k known vector old new gap h living =
-      let words = same_words None (Raise k) old new h in
+      let words = same_words e None (Raise k) old new h in
       record {
         good = living.good;
         reads = living.reads;
@@ -109,7 +109,7 @@ module _ {M T V : Type 0} (e : Told M T) (shapes : AreShapes e) (count m : ℕ) 
   pub exchange_means : (k : ℕ) (sign : Sign) (test : Option Test) (known : List ℕ) (vector : List ℕ → V) (old new : List (Live M)) → IsGap e k → Sees known test
       → Pairs e shapes k [] old → step_words e test (Exchange k sign) old ≡ Some new → Living known vector old → Living known (tested k sign test vector) new
   exchange_means k sign test known vector old new gap sees pairs h living =
-      let words = same_words test (Exchange k sign) old new h in
+      let words = same_words e test (Exchange k sign) old new h in
       record {
         good = λ w. exchange_good k sign (passes test w) (vector w) gap (living.good w);
         reads = λ w w' same j. exchanged k sign (sees w w' same j) (living.reads w w' same j);

@@ -1,4 +1,4 @@
--- Worked values, on the two qubits of the witness.
+-- Worked values, on two qubits.
 use Rattle.std.proofs.Common.{◌≡◌, ◌+◌, true, false, List, [], ◌∷◌, Some, refl}
 use Rattle.std.specs.Prelude.{Ok, ◌==◌}
 use Rattle.std.specs.declared.cmp.Ordering.TheVariants.{Less, Greater}
@@ -9,19 +9,25 @@ use Rattle.program_text.specs.declared.plan.Sign.TheVariants.{Plus, Minus}
 use Rattle.program_text.specs.declared.letter.Letter.TheVariants.{Crossing, Charge, Tested, Still}
 use Rattle.comb_laws.specs.Words.{word_state}
 use Rattle.word_runs.specs.Runs.{run_of, start_word}
+use Rattle.run_laws.specs.Meaning.{IsFaithful, StandsAlive}
+use Rattle.run_laws.proofs.ExactLemmas.{exact_is_faithful}
 use Rattle.run_laws.specs.Rows.{word_cmp, living_words, rows_of_plan, weighed, rows_among}
 use Rattle.run_laws.specs.Schedules.{site_letters}
 use Rattle.run_laws.specs.Timely.{is_known, is_timely, known_after}
 use Rattle.run_laws.specs.Turns.{in_text, next_of, after_turn, turns, text_order}
-use Rattle.run_laws.proofs.Witness.{Two, two_acts, two_nought, two_told, two_weight}
+use Rattle.run_laws.specs.TwoQubits.{Two, stands, two_acts, two_exact, two_faithful, two_nought, two_told, two_weight}
+
+-- the two qubits are faithful with states of vectors that aren't zero
+alive : IsFaithful two_told 2 two_acts (λ v. Unit {0}) two_nought (StandsAlive two_nought stands)
+alive = exact_is_faithful two_told 2 two_acts (λ v. Unit {0}) two_nought stands two_faithful two_exact
 
 -- Two sites: the first turns its qubit over and measures it; the second turns its own over where the first one's outcome
 -- is 1, and measures it.
-abbrev sites : List (List Command)
+abbrev pub sites : List (List Command)
 sites = (Braid 1 Plus ∷ Measure 1 ∷ []) ∷ (Raise 3 ∷ BraidWhen 3 Minus 0 1 ∷ Measure 3 ∷ []) ∷ []
 
 -- the amplitudes 2 and 3 of the first qubit, and 5 and 0 of the second
-abbrev start : Two
+abbrev pub start : Two
 start = record { first = record { none = 2; one = 3 }; second = record { none = 5; one = 0 } }
 
 places_count_on : site_letters 0 sites ≡ (Crossing 1 Plus ∷ Charge 1 0 ∷ []) ∷ (Still 3 ∷ Tested 3 Minus 0 1 ∷ Charge 3 1 ∷ []) ∷ []

@@ -5,3 +5,4 @@ pub mod Rows
 pub mod Schedules
 pub mod Timely
 pub mod Turns
+pub mod TwoQubits

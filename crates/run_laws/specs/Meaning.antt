@@ -58,7 +58,7 @@ pub record IsExact {M T V : Type 0} (e : Told M T) (act : Acts V) (Good : V → 
 abbrev pub StandsAlive : {M V : Type 0} → (V → Bool) → (M → V → Type 0) → M → V → Type 0
 StandsAlive nought Stands s v = Stands s v × (nought v ≡ false)
 
--- So it is faithful with live words alone.
+-- Then it is faithful with states that stand for vectors that aren't zero, and no others.
 abbrev pub ExactIsFaithful : {M T V : Type 0} → Told M T → ℕ → Acts V → (V → Type 0) → (V → Bool) → (M → V → Type 0) → Type 0
 ExactIsFaithful e count act Good nought Stands =
     IsFaithful e count act Good nought Stands → IsExact e act Good nought Stands → IsFaithful e count act Good nought (StandsAlive nought Stands)

@@ -41,6 +41,16 @@ SortedEnds {M} {V} count act Good nought Stands =
     → AreEnds count m act Good nought Stands ls v live → IsPermutation live sorted → IsSortedByKey (λ l. l.word) word_cmp sorted
     → AreEnds count m act Good nought Stands ls v sorted × IsStrictlySortedBy word_cmp (words_of sorted)
 
+-- The parts of a state come in label order.
+abbrev pub HasRisingParts : {M T : Type 0} → Told M T → Type 0
+HasRisingParts {M} {T} e = (k : ℕ) (s : M) (ps : List (ℕ × M)) → e.parts k s ≡ Some ps → IsStrictlySortedBy nat_cmp (map (λ part. part.0) ps)
+
+-- Then live words are made in the order of lists of labels, where the turns are those of the text.
+abbrev pub TextRises : {M T : Type 0} → Told M T → Type 0
+TextRises {M} {T} e =
+    HasRisingParts e → (commands : List Command) (s : M) (live : List (Live M))
+    → run_of e 1 (letters 0 commands) (start_word (measurements commands) s) ≡ Ok live → IsStrictlySortedBy word_cmp (words_of live)
+
 -- Where their vectors aren't zero, they are a filter of all words in order.
 abbrev pub EndsInOrder : {M V : Type 0} → ℕ → Acts V → (V → Type 0) → (V → Bool) → (M → V → Type 0) → Type 0
 EndsInOrder {M} {V} count act Good nought Stands =
@@ -90,6 +100,13 @@ with_weight l (Some x) = Some (l.word, x)
 abbrev pub weighed : {M W : Type 0} → (M → Option W) → List (Live M) → Option (List (List ℕ × W))
 weighed weigh live = each (λ l. with_weight l (weigh l.state)) live
 
+-- Where live words stand in order, those whose weight isn't zero are the rows of the plan.
+abbrev pub RowsInOrder : {M V W : Type 0} → ℕ → Acts V → (V → Type 0) → (V → Bool) → (M → V → Type 0) → (M → Option W) → (V → W) → (W → Bool) → Type 0
+RowsInOrder {M} {V} {W} count act Good nought Stands weigh weight zero =
+    (m : ℕ) (ls : List Letter) (v : V) (live : List (Live M)) (all : List (List ℕ × W))
+    → AreEnds count m act Good nought Stands ls v live → IsStrictlySortedBy word_cmp (words_of live) → weighed weigh live ≡ Some all
+    → rows_among zero all ≡ rows_of_plan count m act weight zero ls v
+
 -- The rows of a run that ended with these live words: they are sorted by their labels, and those whose weight isn't zero
 -- are kept.
 pub record AreRows {M W : Type 0} (weigh : M → Option W) (zero : W → Bool) (live : List (Live M)) (rows : List (List ℕ × W)) : Type 0 where
@@ -100,7 +117,7 @@ pub record AreRows {M W : Type 0} (weigh : M → Option W) (zero : W → Bool) (
   pub fit : weighed weigh sorted ≡ Some all
   pub are : rows ≡ rows_among zero all
 
--- They are the rows of the plan.
+-- So these are the rows of the plan.
 abbrev pub RowsOfEnds : {M V W : Type 0} → ℕ → Acts V → (V → Type 0) → (V → Bool) → (M → V → Type 0) → (M → Option W) → (V → W) → (W → Bool) → Type 0
 RowsOfEnds {M} {V} {W} count act Good nought Stands weigh weight zero =
     (m : ℕ) (ls : List Letter) (v : V) (live : List (Live M)) (rows : List (List ℕ × W))

@@ -4,12 +4,13 @@ ghost use Rattle.symbol_table.specs.Category.{symbols};
 ghost use Rattle.run_laws.specs.Combs.{AreCombVectors, CombsCommuteFar, ExchangesLeaveSome};
 ghost use Rattle.run_laws.specs.Meaning.{TextEnds};
 ghost use Rattle.run_laws.specs.Programs.{ProgramsMayRun};
-ghost use Rattle.run_laws.specs.Rows.{EndsInOrder, ScheduleRows, ScheduleWords, SortedEnds, TextRows, TextWords, WordsAreAll};
+ghost use Rattle.run_laws.specs.Rows.{EndsInOrder, RowsInOrder, ScheduleRows, ScheduleWords, SortedEnds, TextRises, TextRows, TextWords, WordsAreAll};
 ghost use Rattle.run_laws.specs.Schedules.{EverySchedule, ScheduleEnds, SchedulesMeasureEach, TextIsSchedule, TextMeasuresEach};
 
 use crate::meaning::{Exact, Meaning};
 use ring_laws::StarRing;
 use symbol_table::Category;
+use word_runs::Engine;
 
 /// Text order is a legal schedule, whose turns are the letters of the whole text.
 pub fn text_order()
@@ -59,9 +60,15 @@ pub fn living<E: Exact>(_engine: &E)
     ensures schedules { ScheduleWords (E.told _engine.now) (E.count _engine.now) (E.act _engine.now) (E.Good _engine.now) (E.nought _engine.now) (E.Stands _engine.now) }
 {}
 
+/// Where the parts of a state come in label order, the turns of a text make live words in the order of lists of labels.
+pub fn made_in_order<E: Engine>(_engine: &E)
+    ensures { TextRises (E.told _engine.now) }
+{}
+
 /// The rows of a run, its live words in order whose weight isn't zero, are those of the plan: in the order of the text, and
 /// under every legal schedule the same.
 pub fn rows<E: Meaning>(_engine: &E)
+    ensures in_order { RowsInOrder (E.count _engine.now) (E.act _engine.now) (E.Good _engine.now) (E.nought _engine.now) (E.Stands _engine.now) (E.weigh _engine.now) (E.weight _engine.now) (E.zero _engine.now) }
     ensures text { TextRows (E.told _engine.now) (E.count _engine.now) (E.act _engine.now) (E.Good _engine.now) (E.Stands _engine.now) (E.weigh _engine.now) (E.weight _engine.now) (E.zero _engine.now) }
     ensures schedules { ScheduleRows (E.told _engine.now) (E.count _engine.now) (E.act _engine.now) (E.Good _engine.now) (E.Stands _engine.now) (E.weigh _engine.now) (E.weight _engine.now) (E.zero _engine.now) }
 {}

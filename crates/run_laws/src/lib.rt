@@ -6,6 +6,8 @@
 //! - *vector of a word*: what the letters of a plan make of the start's, each outcome read at its place in the word.
 //! - *live words at the end*: each with a state that stands for its vector, and every word whose vector isn't zero
 //!   among them (`specs/Meaning.antt`).
+//! - *exact engine*: one that makes nothing zero, so that its live words are exactly those ([`Exact`]).
+//! - *comb vectors*: what both engines' states stand for, a vector over the paths of strands (`specs/Combs.antt`).
 //! - *letters in time*: each measurement comes before the letters that test its outcome (`specs/Timely.antt`).
 //! - *schedule*: the sites in the order of their turns; legal where each stands in it as often as it has commands
 //!   (`specs/Turns.antt`).
@@ -19,3 +21,6 @@ pub mod laws;
 mod meaning;
 
 pub use meaning::{Exact, Meaning};
+
+#[cfg(test)]
+mod tests;

@@ -8,8 +8,8 @@ ghost use Rattle.run_laws.specs.Schedules.{CommuteFar};
 /// What an engine's states stand for: vectors, on which exchanges and projections act.
 ///
 /// It owes one fact about each thing that an engine does (`specs/Meaning.antt`), that operators which are far apart
-/// commute (`specs/Schedules.antt`), and that weights are those of the vectors (`specs/Rows.antt`). `told` is what the engine tells of states, `Seen` and `Shape` are those of the
-/// engine.
+/// commute (`specs/Schedules.antt`), and that weights are those of the vectors (`specs/Rows.antt`). `told` is what the
+/// engine tells of states, `Seen` and `Shape` are those of the engine.
 pub trait Meaning: Drop {
     ghost Seen: { Type 0 };
 
@@ -21,12 +21,14 @@ pub trait Meaning: Drop {
     // how many labels there are
     ghost count: { Self → ℕ };
 
+    // what exchanges and projections make of a vector
     ghost act: { Self → Acts Vector };
     // such as: over the strands, and zero off the paths
     ghost Good: { Self → Vector → Type 0 };
     // whether a vector is zero
     ghost nought: { Self → Vector → Bool };
 
+    // whether a state stands for a vector
     ghost Stands: { Self → Seen → Vector → Type 0 };
 
     ghost Weight: { Type 0 };

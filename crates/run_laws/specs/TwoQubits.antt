@@ -4,6 +4,8 @@
 use Rattle.std.proofs.Common.{◌≡◌, ℕ, zero, suc, ◌+◌, ◌*◌, ◌<◌, Bool, true, false, inl, inr, List, [], ◌∷◌, map, Some, refl, ap, sym, subst, ◌∙◌, arith}
 use Rattle.std.specs.Prelude.{◌==◌, ◌&&◌, ◌||◌, if◌then◌else◌}
 use Rattle.std.specs.List.{AllByRecursion}
+use Rattle.std.specs.List.Sorted.{IsStrictlySortedBy}
+use Rattle.std.specs.Ordering.{nat_cmp}
 use Rattle.std.proofs.lemmas.Bool.Decides.{eqb_tells}
 use Rattle.ring_laws.proofs.StatedLemmas.{some_inj}
 use Rattle.comb_laws.specs.Words.{Acts}
@@ -12,10 +14,9 @@ use Rattle.comb_laws.specs.declared.operator.Operator.TheVariants as operator
 use Rattle.word_runs.specs.Told.{Told, IsGap, AreShapes, after_step, after_raises}
 use Rattle.word_runs.specs.declared.engine.Step.{Step}
 use Rattle.word_runs.specs.declared.engine.Step.TheVariants.{Raise, Exchange}
-use Rattle.run_laws.specs.Meaning.{IsIn, AreDistinct, ArePartsOf, IsFaithful, IsExact, StandsAlive}
-use Rattle.run_laws.specs.Rows.{IsWeighing}
+use Rattle.run_laws.specs.Meaning.{IsIn, AreDistinct, ArePartsOf, IsFaithful, IsExact}
+use Rattle.run_laws.specs.Rows.{HasRisingParts, IsWeighing}
 use Rattle.run_laws.specs.Schedules.{CommuteFar}
-use Rattle.run_laws.proofs.ExactLemmas.{exact_is_faithful}
 
 -- The amplitudes of the charges 0 and 1.
 pub record Qubit : Type 0 where
@@ -119,6 +120,19 @@ two_shapes = record {
     pair : (b : Bool) (k t : ℕ) → (k == t) ≡ b → (k == after_raises two_told (if b then [] else k ∷ []) t) ≡ true
     pair true k t h = h
     pair false k t h = same k
+
+rising_by : (x y : Bool) (t : ℕ) (a b : Two) → IsStrictlySortedBy nat_cmp (map (λ (part : ℕ × Pair). part.0) (parts_by x y t a b))
+unfolding IsStrictlySortedBy
+rising_by true true t a b = tt
+rising_by true false t a b = (tt, tt)
+rising_by false true t a b = (tt, tt)
+rising_by false false t a b = ((refl, tt), (tt, tt))
+
+pub two_rising : HasRisingParts two_told
+two_rising k s ps h =
+    subst (λ (qs : List (ℕ × Pair)). IsStrictlySortedBy nat_cmp (map (λ (part : ℕ × Pair). part.0) qs)) (some_inj (parts_of k s) ps h)
+    (rising_by (two_nought (two_acts k (operator.Project 0) s.vector)) (two_nought (two_acts k (operator.Project 1) s.vector)) s.gap
+    (two_acts k (operator.Project 0) s.vector) (two_acts k (operator.Project 1) s.vector))
 
 both : (a b c d : Bool) → (a ≡ true → c ≡ true) → (b ≡ true → d ≡ true) → (a || b) ≡ true → (c || d) ≡ true
 both true b c d f g h = rw (f refl) refl
@@ -226,9 +240,6 @@ two_exact = record {
       (subst (λ w. AllByRecursion (λ (part : ℕ × Pair). two_nought (two_acts k (operator.Project part.0) w) ≡ false) (parts_of k s)) h
       (some_by (λ q. two_acts k (operator.Project q) s.vector) s.gap (two_nought (two_acts k (operator.Project 0) s.vector)) (two_nought (two_acts k (operator.Project 1) s.vector)) refl refl));
 }
-
-pub two_alive : IsFaithful two_told 2 two_acts (λ v. Unit {0}) two_nought (StandsAlive two_nought stands)
-two_alive = exact_is_faithful two_told 2 two_acts (λ v. Unit {0}) two_nought stands two_faithful two_exact
 
 pub two_far : CommuteFar 4 two_acts (λ v. Unit {0})
 two_far = record { keeps = λ k o v low high good. tt; far = λ i j first second v low apart high good. far i j first second v low apart high }
