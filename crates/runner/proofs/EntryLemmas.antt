@@ -24,7 +24,7 @@ labels_up : CountsUp labels
 labels_up = record { none = refl; more = λ n. refl }
 
 -- the words stand in the order of lists of labels
-words_rise : (count m : ℕ) → IsStrictlySortedBy key_cmp (words count m)
+pub words_rise : (count m : ℕ) → IsStrictlySortedBy key_cmp (words count m)
 unfolding IsStrictlySortedBy
 words_rise count zero = (tt, tt)
 words_rise count (suc m) =
@@ -59,7 +59,7 @@ module _ {E : Type 0} (c : Symbols E) (v : List ℕ → E) where
   with_number key = (key, v key)
 
   -- entries are keys that count, each with its number
-  filtered : (ws : List (List ℕ)) → filter (λ (e : List ℕ × E). not (c.held.is_zero e.1)) (map with_number ws) ≡ map with_number (filter counts ws)
+  pub filtered : (ws : List (List ℕ)) → filter (λ (e : List ℕ × E). not (c.held.is_zero e.1)) (map with_number ws) ≡ map with_number (filter counts ws)
   filtered [] = refl
   filtered (w ∷ ws) = pick (counts w) (filtered ws)
     where

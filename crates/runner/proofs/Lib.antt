@@ -1,4 +1,8 @@
+pub mod EngineMeaning
 pub mod EntryLemmas
+pub mod OutcomeLemmas
+pub mod PairMeaning
+pub mod RaiseMeaning
 pub mod RowLemmas
 pub mod StepLemmas
 mod Worked
