@@ -7,7 +7,7 @@ ghost use Rattle.symbol_table.specs.Category.{symbols};
 ghost use Rattle.tree_shapes.specs.Labelled.{is_admissible, size};
 ghost use Rattle.tree_shapes.specs.Views.{labelled};
 ghost use Rattle.tree_shapes.specs.declared.limits.TheConstants.{STRAND_LIMIT};
-ghost use Rattle.program_text.specs.Letters.{gap_of, letters};
+ghost use Rattle.program_text.specs.Letters.{IsTestOf, gap_of, letters, measurements};
 ghost use Rattle.word_runs.specs.Told.{IsGap};
 ghost use Rattle.word_runs.specs.Runs.{Runs};
 ghost use Rattle.word_runs.specs.Lives.{live_of, lives_of};
@@ -103,6 +103,7 @@ fn end_rows<R: StarRing>(
 ) -> Result<Vec<Row<R>>, RunFault>
     requires state { IsTreeState (symbols R.StarRing category.now) (length state.strands) state }
     requires gaps { AllByRecursion (λ l. IsGap (tree_told (symbols R.StarRing category.now) (length state.strands)) (gap_of l)) (letters 0 commands.now) }
+    requires tests { AllByRecursion (IsTestOf (measurements commands.now)) commands.now }
     requires short { length commands.now < 2 ^ 31 }
     ensures { Runs (λ rows. rows_of rows.items) result (rows_from (symbols R.StarRing category.now) (length state.strands) state commands.now) }
 {
@@ -129,6 +130,7 @@ pub fn run_rows<R: StarRing>(
     requires few { size (labelled tree.now) ≤ STRAND_LIMIT }
     requires admissible { is_admissible (fuses category.now.rules) (labelled tree.now) ≡ true }
     requires gaps { AllByRecursion (λ l. IsGap (tree_told (symbols R.StarRing category.now) (size (labelled tree.now))) (gap_of l)) (letters 0 commands.now) }
+    requires tests { AllByRecursion (IsTestOf (measurements commands.now)) commands.now }
     requires short { length commands.now < 2 ^ 31 }
     // It stops exactly where the stated evaluation does.
     ensures { Runs outcomes_in result (evaluation_of (symbols R.StarRing category.now) (labelled tree.now) commands.now) }
