@@ -7,7 +7,6 @@ use Rattle.ring_laws.proofs.StatedLemmas.{some_inj}
 use Rattle.symbol_table.specs.Symbols.{Symbols}
 use Rattle.tree_shapes.specs.Outlines.{size}
 use Rattle.program_text.specs.declared.plan.Sign.{Sign}
-use Rattle.word_runs.specs.Told.{IsGap}
 use Rattle.word_runs.proofs.EachLemmas.{all_append, all_map}
 use Rattle.comb_laws.specs.Operators.{exchange_by, swapped}
 use Rattle.comb_laws.specs.Paths.{Path, Vector, is_path, labels, paths}
@@ -32,8 +31,9 @@ use Rattle.braid_act.proofs.SymbolLemmas.{kept}
 use Rattle.charge_project.specs.Splits.{any_left, part_at, parts_below}
 use Rattle.charge_project.proofs.ProjectLemmas.{part_of, project_is}
 use Rattle.runner.specs.Meaning.{AreLawful, StandsFor}
-use Rattle.runner.specs.Trees.{IsTreeState}
+use Rattle.runner.specs.Trees.{tree_told}
 use Rattle.runner.proofs.StepLemmas.{IsPairOf}
+use Rattle.runner.proofs.WordOrder.{Rising}
 
 -- the labels below n
 labels_low : (n : ℕ) → AllByRecursion (λ q. q < n) (labels n)
@@ -50,7 +50,7 @@ labels_apart : (n : ℕ) → AreDistinct (labels n)
 labels_apart zero = tt
 labels_apart (suc n) = apart_last n (labels n) (labels_apart n) (labels_low n)
 
-pub distinct_filter : {A : Type 0} (test : A → Bool) (xs : List A) → AreDistinct xs → AreDistinct (filter test xs)
+distinct_filter : {A : Type 0} (test : A → Bool) (xs : List A) → AreDistinct xs → AreDistinct (filter test xs)
 distinct_filter test [] d = tt
 distinct_filter {A} test (x ∷ xs) d = pick (test x) (distinct_filter test xs d.1)
   where
@@ -67,6 +67,29 @@ names_kept {A} f test (q ∷ qs) = pick (test (q, f q)) (names_kept f test qs)
         → map (λ (p : ℕ × A). p.0) (if b then (q, f q) ∷ filter test (map (λ r. (r, f r)) qs) else filter test (map (λ r. (r, f r)) qs)) ≡ (if b then q ∷ filter (λ r. test (r, f r)) qs else filter (λ r. test (r, f r)) qs)
     pick true rest = ap (λ l. q ∷ l) rest
     pick false rest = rest
+
+rising_last : (n : ℕ) (xs : List ℕ) → Rising xs → AllByRecursion (λ q. q < n) xs → Rising (xs ++ n ∷ [])
+rising_last n [] r low = (tt, tt)
+rising_last n (x ∷ xs) r low = (all_append (λ y. x < y) xs (n ∷ []) r.0 (low.0, tt), rising_last n xs r.1 low.1)
+
+labels_rise : (n : ℕ) → Rising (labels n)
+labels_rise zero = tt
+labels_rise (suc n) = rising_last n (labels n) (labels_rise n) (labels_low n)
+
+rising_filter : (test : ℕ → Bool) (xs : List ℕ) → Rising xs → Rising (filter test xs)
+rising_filter test [] r = tt
+rising_filter test (x ∷ xs) r = pick (test x) (rising_filter test xs r.1)
+  where
+    pick : (b : Bool) → Rising (filter test xs) → Rising (if b then x ∷ filter test xs else filter test xs)
+    pick true rest = (filter_all (λ y. x < y) test xs r.0, rest)
+    pick false rest = rest
+
+-- the parts of the engine stand in the order of their labels
+pub parts_rise : {E : Type 0} (c : Symbols E) (n k : ℕ) (s : State E) (ps : List (ℕ × State E)) → (tree_told c n).parts k s ≡ Some ps → Rising (map (λ (p : ℕ × State E). p.0) ps)
+parts_rise {E} c n k s ps h =
+    let any = λ (p : ℕ × State E). any_left p.1.amps in
+    subst (λ l. Rising (map (λ (p : ℕ × State E). p.0) l)) (some_inj (parts_below k s c.count) ps h)
+    (subst Rising (sym (names_kept (part_at k s) any (labels c.count))) (rising_filter (λ q. any (q, part_at k s q)) (labels c.count) (labels_rise c.count)))
 
 each_named : {A : Type 0} (P : ℕ × A → Type 0) (f : ℕ → A) (n : ℕ) (qs : List ℕ) → AllByRecursion (λ q. q < n) qs → ((q : ℕ) → q < n → P (q, f q)) → AllByRecursion P (map (λ q. (q, f q)) qs)
 each_named P f n [] low h = tt

@@ -7,7 +7,7 @@ ghost use Rattle.symbol_table.specs.Category.{symbols};
 ghost use Rattle.tree_shapes.specs.Labelled.{is_admissible, size};
 ghost use Rattle.tree_shapes.specs.Views.{labelled};
 ghost use Rattle.tree_shapes.specs.declared.limits.TheConstants.{STRAND_LIMIT};
-ghost use Rattle.program_text.specs.Letters.{gap_of, letters};
+ghost use Rattle.program_text.specs.Letters.{IsTestOf, gap_of, letters, measurements};
 ghost use Rattle.word_runs.specs.Told.{IsGap};
 ghost use Rattle.word_runs.specs.Runs.{Runs};
 ghost use Rattle.word_runs.specs.Lives.{lives_of};
@@ -50,6 +50,7 @@ pub(crate) fn run_from<R: StarRing>(
 ) -> Result<Vec<LiveWord<TreeState<R>>>, RunFault>
     requires state { IsTreeState (symbols R.StarRing category.now) (length state.strands) state }
     requires gaps { AllByRecursion (λ l. IsGap (tree_told (symbols R.StarRing category.now) (length state.strands)) (gap_of l)) (letters 0 commands.now) }
+    requires tests { AllByRecursion (IsTestOf (measurements commands.now)) commands.now }
     requires short { length commands.now < 2 ^ 31 }
     ensures states { IfOk result (λ ends. AllByRecursion (λ l. IsTreeState (symbols R.StarRing category.now) (length state.strands) l.state) ends.items) }
     ensures stated { Runs (λ ends. lives_of (λ s. s) ends.items) result (ends_from (symbols R.StarRing category.now) (length state.strands) state commands.now) }
@@ -78,6 +79,7 @@ pub fn run_states<R: StarRing>(
     requires few { size (labelled tree.now) ≤ STRAND_LIMIT }
     requires admissible { is_admissible (fuses category.now.rules) (labelled tree.now) ≡ true }
     requires gaps { AllByRecursion (λ l. IsGap (tree_told (symbols R.StarRing category.now) (size (labelled tree.now))) (gap_of l)) (letters 0 commands.now) }
+    requires tests { AllByRecursion (IsTestOf (measurements commands.now)) commands.now }
     requires short { length commands.now < 2 ^ 31 }
     // Every state is one of the category, over as many strands.
     ensures states { IfOk result (λ ends. AllByRecursion (λ l. IsTreeState (symbols R.StarRing category.now) (size (labelled tree.now)) l.state) ends.items) }
