@@ -6,42 +6,39 @@ use Rattle.std.specs.List.Sorted.{IsStrictlySortedBy}
 use Rattle.std.proofs.lemmas.List.{length-replicate}
 use Rattle.std.proofs.lemmas.List.Kept.{IsStrictlySortedBy-filter}
 use Rattle.ring_laws.specs.Ring.{RingLaws}
-use Rattle.ring_laws.specs.Stated.{◌>>=◌, steps_over}
+use Rattle.ring_laws.specs.Stated.{steps_over}
 use Rattle.ring_laws.proofs.StatedLemmas.{bind_some, some_inj}
 use Rattle.symbol_table.specs.Symbols.{Symbols}
 use Rattle.tree_shapes.specs.Labelled.{Labelled, is_admissible, leaves, node_labels, size}
-use Rattle.program_text.specs.Letters.{gap_of, letters, measurements}
+use Rattle.program_text.specs.Letters.{letters, measurements}
 use Rattle.program_text.specs.declared.plan.Command.{Command}
-use Rattle.word_runs.specs.Told.{IsGap}
 use Rattle.word_runs.specs.Runs.{Live, ◌>>>◌, fitting, start_word}
 use Rattle.word_runs.specs.declared.fault.RunStop.{RunStop}
 use Rattle.word_runs.proofs.EachLemmas.{all_map, ok_first}
 use Rattle.comb_laws.specs.Amplitudes.{start_vector}
 use Rattle.comb_laws.specs.Operators.{weight}
-use Rattle.comb_laws.specs.Paths.{Vector}
 use Rattle.comb_laws.specs.Plans.{Outcomes, outcomes_of, words}
 use Rattle.comb_laws.specs.Words.{comb_acts, word_state}
 use Rattle.comb_laws.proofs.StartLemmas.{length-leaves}
 use Rattle.path_laws.proofs.CancelLemmas.{starts_are_over}
-use Rattle.run_laws.specs.Combs.{AreCombVectors, IsCombVector, comb_nought, comb_weight}
+use Rattle.run_laws.specs.Combs.{AreCombVectors, comb_nought, comb_weight}
 use Rattle.run_laws.specs.Meaning.{AreEnds, IsFull, words_of}
 use Rattle.run_laws.specs.Rows.{word_cmp, rows_among}
-use Rattle.run_laws.specs.Timely.{is_timely}
 use Rattle.run_laws.proofs.CombVectors.{are_comb_vectors}
 use Rattle.run_laws.proofs.EndMeaning.{text_ends}
 use Rattle.run_laws.proofs.OrderLemmas.{filter_in, in_filter, right_in, same_in_order, words_are_all}
 use Rattle.amp_store.specs.Amplitudes.{AreAmplitudes}
-use Rattle.recouple.specs.States.{State, comb}
+use Rattle.recouple.specs.States.{State}
 use Rattle.recouple.proofs.StartLemmas.{own_of, own_stands}
 use Rattle.charge_project.specs.Weights.{stated_weight}
 use Rattle.charge_project.proofs.WeightLemmas.{weight_given}
-use Rattle.runner.specs.Evaluated.{ends_from, evaluation_of, own_state, row_step, rows_at, rows_from}
+use Rattle.runner.specs.Evaluated.{ends_from, own_state, row_step, rows_at, rows_from}
 use Rattle.runner.specs.Meaning.{AreLawful, IsLawfulVector, StandsFor}
 use Rattle.runner.specs.Outcomes.{EndsInOutcomes}
 use Rattle.runner.specs.Shapes.{tree_shapes}
 use Rattle.runner.specs.Trees.{tree_told}
-use Rattle.runner.proofs.EngineMeaning.{engine_faithful}
-use Rattle.runner.proofs.PairMeaning.{parts_rise}
+use Rattle.runner.specs.EngineFacts.{engine_faithful}
+use Rattle.runner.proofs.PartOrder.{parts_rise}
 use Rattle.runner.proofs.WordOrder.{RisesTo, rises_whole, run_rises}
 
 -- words with what stands at each

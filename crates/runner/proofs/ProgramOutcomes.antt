@@ -1,11 +1,11 @@
 -- The commands of a well formed program are at gaps of its strands, and test outcomes after these are there.
-use Rattle.std.proofs.Common.{◌≡◌, ℕ, ◌+◌, ◌<◌, ◌≤◌, true, List, [], ◌∷◌, refl, ap, sym, subst, ◌∙◌, arith}
+use Rattle.std.proofs.Common.{◌≡◌, ℕ, ◌+◌, ◌<◌, ◌≤◌, List, [], ◌∷◌, refl, ap, sym, subst, ◌∙◌, arith}
 use Rattle.std.specs.List.{AllByRecursion}
 use Rattle.ring_laws.specs.Ring.{RingLaws}
 use Rattle.symbol_table.specs.Symbols.{Symbols}
 use Rattle.tree_shapes.specs.Labelled.{size}
 use Rattle.program_text.specs.Letters.{gap_in, gap_of, letter_at, letters, outcomes_of}
-use Rattle.program_text.specs.Program.{Program, ProgramSite}
+use Rattle.program_text.specs.Program.{ProgramSite}
 use Rattle.program_text.specs.WellFormed.{AreSites, IsGapOf, commands_in}
 use Rattle.program_text.specs.declared.plan.Command.{Command}
 use Rattle.program_text.specs.declared.plan.Command.TheVariants.{Braid, Raise, Measure, BraidWhen}

@@ -12,6 +12,7 @@
 
 mod engine;
 pub mod laws;
+mod meaning;
 mod rows;
 mod run;
 mod steps;

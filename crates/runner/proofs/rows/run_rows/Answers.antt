@@ -4,7 +4,6 @@ use Rattle.symbol_table.specs.Category.{draft_symbols}
 use Rattle.tree_shapes.specs.Views.{labelled}
 use Rattle.word_runs.specs.Runs.{◌>>>◌, Stops}
 use Rattle.runner.specs.Evaluated.{rows_from}
-use Rattle.runner.specs.Rows.{outcomes_in}
 use Rattle.runner.proofs.RowLemmas.{evaluated, stops_through}
 use Rattle.runner.proofs.rows.run_rows.Goals as goal
 

@@ -1,11 +1,15 @@
 -- What an exchange and a split at a pair leave stands for the comb braid and the comb projections.
-use Rattle.std.proofs.Common.{◌≡◌, ℕ, zero, suc, ◌+◌, ◌-◌, ◌<◌, Bool, true, false, List, [], ◌∷◌, ◌++◌, map, length, Option, Some, None, refl, ap, sym, ◌∙◌, subst, arith}
-use Rattle.std.specs.Prelude.{if◌then◌else◌, slice_get, slice_index, ◌==◌}
-use Rattle.std.specs.List.{AllByRecursion, filter, list_all}
+use Rattle.std.proofs.Common.{◌≡◌, ℕ, zero, suc, ◌+◌, ◌-◌, ◌<◌, Bool, true, false, List, [], ◌∷◌, ◌++◌, map, refl, ap, sym, ◌∙◌, subst, arith}
+use Rattle.std.specs.Prelude.{if◌then◌else◌, slice_index, ◌==◌, ◌&&◌, nat_lt}
+use Rattle.std.specs.List.{AllByRecursion, filter}
+use Rattle.tree_shapes.specs.Settling.{is_pair_at}
+use Rattle.program_text.specs.Form.{is_gap}
+use Rattle.comb_laws.proofs.PathFacts.{and_true}
+use Rattle.ring_laws.proofs.SumLemmas as S
+use Rattle.std.proofs.lemmas.Bool.Decides.{nat_tests}
 use Rattle.ring_laws.specs.Ring.{RingLaws}
-use Rattle.ring_laws.proofs.StatedLemmas.{some_inj}
 use Rattle.symbol_table.specs.Symbols.{Symbols}
-use Rattle.tree_shapes.specs.Outlines.{size}
+use Rattle.tree_shapes.specs.Outlines.{Outline, size}
 use Rattle.program_text.specs.declared.plan.Sign.{Sign}
 use Rattle.word_runs.proofs.EachLemmas.{all_append, all_map}
 use Rattle.comb_laws.specs.Operators.{exchange_by, swapped}
@@ -14,7 +18,7 @@ use Rattle.comb_laws.specs.Words.{comb_acts}
 use Rattle.comb_laws.specs.declared.operator.Operator.TheVariants as operator
 use Rattle.path_laws.proofs.ActLemmas.{length-swapped}
 use Rattle.run_laws.specs.Combs.{comb_nought}
-use Rattle.run_laws.specs.Meaning.{IsIn, AreDistinct, ArePartsOf}
+use Rattle.run_laws.specs.Meaning.{AreDistinct, ArePartsOf}
 use Rattle.run_laws.proofs.DistinctLemmas.{in_map}
 use Rattle.run_laws.proofs.OrderLemmas.{in_filter, in_labels}
 use Rattle.amp_store.specs.Amplitudes.{AreAmplitudes}
@@ -23,7 +27,7 @@ use Rattle.amp_store.proofs.CopyLemmas.{amplitudes_part}
 use Rattle.amp_store.proofs.OrderLemmas.{filter_all}
 use Rattle.recouple.specs.States.{State, IsStateOf, comb}
 use Rattle.recouple.proofs.PairLemmas.{IsPair, pair_there}
-use Rattle.braid_act.specs.Exchanges.{exchange_at, exchanged, HasEntry}
+use Rattle.braid_act.specs.Exchanges.{exchange_at, exchanged}
 use Rattle.braid_act.proofs.BraidLemmas.{braid_is}
 use Rattle.braid_act.proofs.MapLemmas.{are_amplitudes}
 use Rattle.braid_act.proofs.StateLemmas as B
@@ -31,12 +35,28 @@ use Rattle.braid_act.proofs.SymbolLemmas.{kept}
 use Rattle.charge_project.specs.Splits.{any_left, part_at, parts_below}
 use Rattle.charge_project.proofs.ProjectLemmas.{part_of, project_is}
 use Rattle.runner.specs.Meaning.{AreLawful, StandsFor}
-use Rattle.runner.specs.Trees.{tree_told}
-use Rattle.runner.proofs.StepLemmas.{IsPairOf}
-use Rattle.runner.proofs.WordOrder.{Rising}
+
+-- what a pair of the engine is
+pub record IsPairOf (n k : ℕ) (t : Outline) : Type 0 where
+  pub low : 0 < k
+  pub high : k < n
+  pub pair : is_pair_at t k ≡ true
+
+pub pair_of : (n k : ℕ) (t : Outline) → size t ≡ n → (is_gap n k && (if size t == n then is_pair_at t k else true)) ≡ true → IsPairOf n k t
+pair_of n k t long h =
+    let parts = and_true (is_gap n k) (if size t == n then is_pair_at t k else true) h in
+    let gap = and_true (nat_lt 0 k) (nat_lt k n) parts.0 in
+    record {
+      low = less_is 0 k gap.0;
+      high = less_is k n gap.1;
+      pair = sym (S.if_yes (size t == n) (is_pair_at t k) true (S.test_true (size t) n long)) ∙ parts.1;
+    }
+  where
+    less_is : (a b : ℕ) → nat_lt a b ≡ true → a < b
+    less_is a b e = grind (arith, nat_tests)
 
 -- the labels below n
-labels_low : (n : ℕ) → AllByRecursion (λ q. q < n) (labels n)
+pub labels_low : (n : ℕ) → AllByRecursion (λ q. q < n) (labels n)
 labels_low zero = tt
 labels_low (suc n) = all_append (λ q. q < suc n) (labels n) (n ∷ []) (all_map (λ q. q < n) (λ q. q < suc n) (labels n) (λ q low. omega arith) (labels_low n)) (omega arith, tt)
 
@@ -59,7 +79,7 @@ distinct_filter {A} test (x ∷ xs) d = pick (test x) (distinct_filter test xs d
     pick false rest = rest
 
 -- the names of those that pass a test
-names_kept : {A : Type 0} (f : ℕ → A) (test : ℕ × A → Bool) (qs : List ℕ) → map (λ (p : ℕ × A). p.0) (filter test (map (λ q. (q, f q)) qs)) ≡ filter (λ q. test (q, f q)) qs
+pub names_kept : {A : Type 0} (f : ℕ → A) (test : ℕ × A → Bool) (qs : List ℕ) → map (λ (p : ℕ × A). p.0) (filter test (map (λ q. (q, f q)) qs)) ≡ filter (λ q. test (q, f q)) qs
 names_kept f test [] = refl
 names_kept {A} f test (q ∷ qs) = pick (test (q, f q)) (names_kept f test qs)
   where
@@ -67,29 +87,6 @@ names_kept {A} f test (q ∷ qs) = pick (test (q, f q)) (names_kept f test qs)
         → map (λ (p : ℕ × A). p.0) (if b then (q, f q) ∷ filter test (map (λ r. (r, f r)) qs) else filter test (map (λ r. (r, f r)) qs)) ≡ (if b then q ∷ filter (λ r. test (r, f r)) qs else filter (λ r. test (r, f r)) qs)
     pick true rest = ap (λ l. q ∷ l) rest
     pick false rest = rest
-
-rising_last : (n : ℕ) (xs : List ℕ) → Rising xs → AllByRecursion (λ q. q < n) xs → Rising (xs ++ n ∷ [])
-rising_last n [] r low = (tt, tt)
-rising_last n (x ∷ xs) r low = (all_append (λ y. x < y) xs (n ∷ []) r.0 (low.0, tt), rising_last n xs r.1 low.1)
-
-labels_rise : (n : ℕ) → Rising (labels n)
-labels_rise zero = tt
-labels_rise (suc n) = rising_last n (labels n) (labels_rise n) (labels_low n)
-
-rising_filter : (test : ℕ → Bool) (xs : List ℕ) → Rising xs → Rising (filter test xs)
-rising_filter test [] r = tt
-rising_filter test (x ∷ xs) r = pick (test x) (rising_filter test xs r.1)
-  where
-    pick : (b : Bool) → Rising (filter test xs) → Rising (if b then x ∷ filter test xs else filter test xs)
-    pick true rest = (filter_all (λ y. x < y) test xs r.0, rest)
-    pick false rest = rest
-
--- the parts of the engine stand in the order of their labels
-pub parts_rise : {E : Type 0} (c : Symbols E) (n k : ℕ) (s : State E) (ps : List (ℕ × State E)) → (tree_told c n).parts k s ≡ Some ps → Rising (map (λ (p : ℕ × State E). p.0) ps)
-parts_rise {E} c n k s ps h =
-    let any = λ (p : ℕ × State E). any_left p.1.amps in
-    subst (λ l. Rising (map (λ (p : ℕ × State E). p.0) l)) (some_inj (parts_below k s c.count) ps h)
-    (subst Rising (sym (names_kept (part_at k s) any (labels c.count))) (rising_filter (λ q. any (q, part_at k s q)) (labels c.count) (labels_rise c.count)))
 
 each_named : {A : Type 0} (P : ℕ × A → Type 0) (f : ℕ → A) (n : ℕ) (qs : List ℕ) → AllByRecursion (λ q. q < n) qs → ((q : ℕ) → q < n → P (q, f q)) → AllByRecursion P (map (λ q. (q, f q)) qs)
 each_named P f n [] low h = tt
