@@ -1,8 +1,7 @@
-pub mod EngineMeaning
-pub mod EntryLemmas
 pub mod OutcomeLemmas
-pub mod PairMeaning
-pub mod RaiseMeaning
+pub mod PartOrder
+pub mod ProgramOutcomes
 pub mod RowLemmas
 pub mod StepLemmas
+pub mod WordOrder
 mod Worked

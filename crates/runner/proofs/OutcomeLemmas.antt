@@ -1,76 +1,50 @@
--- Where an evaluation ends, its rows in order are those of the plan.
+-- Where an evaluation ends, its rows are those of the plan.
 use Rattle.std.proofs.Common.{◌≡◌, ℕ, ◌+◌, ◌≤◌, Bool, true, false, not, List, [], ◌∷◌, ◌++◌, map, length, Option, Some, None, append-nil, refl, ap, sym, ◌∙◌, subst, arith}
-use Rattle.std.specs.Prelude.{if◌then◌else◌, Result, Ok, IsPermutation, IsSortedByKey}
+use Rattle.std.specs.Prelude.{if◌then◌else◌, Result, Ok}
 use Rattle.std.specs.List.{AllByRecursion, filter}
 use Rattle.std.specs.List.Sorted.{IsStrictlySortedBy}
-use Rattle.std.proofs.lemmas.List.Elements.{recursion_from_All, All-from_recursion}
+use Rattle.std.proofs.lemmas.List.{length-replicate}
 use Rattle.std.proofs.lemmas.List.Kept.{IsStrictlySortedBy-filter}
-use Rattle.std.proofs.lemmas.List.Sorted.{All-permutation, IsPermutation-map}
 use Rattle.ring_laws.specs.Ring.{RingLaws}
-use Rattle.ring_laws.specs.Stated.{◌>>=◌, steps_over}
+use Rattle.ring_laws.specs.Stated.{steps_over}
 use Rattle.ring_laws.proofs.StatedLemmas.{bind_some, some_inj}
 use Rattle.symbol_table.specs.Symbols.{Symbols}
 use Rattle.tree_shapes.specs.Labelled.{Labelled, is_admissible, leaves, node_labels, size}
-use Rattle.program_text.specs.Letters.{gap_of, letters, measurements}
+use Rattle.program_text.specs.Letters.{letters, measurements}
 use Rattle.program_text.specs.declared.plan.Command.{Command}
-use Rattle.word_runs.specs.Told.{IsGap}
-use Rattle.word_runs.specs.Runs.{Live, ◌>>>◌, fitting}
+use Rattle.word_runs.specs.Runs.{Live, ◌>>>◌, fitting, start_word}
 use Rattle.word_runs.specs.declared.fault.RunStop.{RunStop}
 use Rattle.word_runs.proofs.EachLemmas.{all_map, ok_first}
 use Rattle.comb_laws.specs.Amplitudes.{start_vector}
 use Rattle.comb_laws.specs.Operators.{weight}
-use Rattle.comb_laws.specs.Paths.{Vector}
 use Rattle.comb_laws.specs.Plans.{Outcomes, outcomes_of, words}
 use Rattle.comb_laws.specs.Words.{comb_acts, word_state}
 use Rattle.comb_laws.proofs.StartLemmas.{length-leaves}
 use Rattle.path_laws.proofs.CancelLemmas.{starts_are_over}
-use Rattle.run_laws.specs.Combs.{AreCombVectors, IsCombVector, comb_nought, comb_weight}
-use Rattle.run_laws.specs.Meaning.{IsIn, AreDistinct, AreEnds, IsFull, words_of}
+use Rattle.run_laws.specs.Combs.{AreCombVectors, comb_nought, comb_weight}
+use Rattle.run_laws.specs.Meaning.{AreEnds, IsFull, words_of}
 use Rattle.run_laws.specs.Rows.{word_cmp, rows_among}
-use Rattle.run_laws.specs.Timely.{is_timely}
 use Rattle.run_laws.proofs.CombVectors.{are_comb_vectors}
 use Rattle.run_laws.proofs.EndMeaning.{text_ends}
-use Rattle.run_laws.proofs.OrderLemmas.{distinct_permutation, filter_in, in_filter, in_permutation, out_permutation, right_in, rises, same_in_order, words_are_all}
+use Rattle.run_laws.proofs.OrderLemmas.{filter_in, in_filter, right_in, same_in_order, words_are_all}
 use Rattle.amp_store.specs.Amplitudes.{AreAmplitudes}
-use Rattle.recouple.specs.States.{State, comb}
+use Rattle.recouple.specs.States.{State}
 use Rattle.recouple.proofs.StartLemmas.{own_of, own_stands}
 use Rattle.charge_project.specs.Weights.{stated_weight}
 use Rattle.charge_project.proofs.WeightLemmas.{weight_given}
-use Rattle.runner.specs.Evaluated.{ends_from, evaluation_of, own_state, row_step, rows_at, rows_from}
+use Rattle.runner.specs.Evaluated.{ends_from, own_state, row_step, rows_at, rows_from}
 use Rattle.runner.specs.Meaning.{AreLawful, IsLawfulVector, StandsFor}
-use Rattle.runner.specs.Outcomes.{RowsAreOutcomes}
+use Rattle.runner.specs.Outcomes.{EndsInOutcomes}
 use Rattle.runner.specs.Shapes.{tree_shapes}
 use Rattle.runner.specs.Trees.{tree_told}
-use Rattle.runner.proofs.EngineMeaning.{engine_faithful}
-use Rattle.runner.proofs.PairMeaning.{distinct_filter}
+use Rattle.runner.specs.EngineFacts.{engine_faithful}
+use Rattle.runner.proofs.PartOrder.{parts_rise}
+use Rattle.runner.proofs.WordOrder.{RisesTo, rises_whole, run_rises}
 
 -- words with what stands at each
 module _ {W : Type 0} (at : List ℕ → W) where
   abbrev row : List ℕ → List ℕ × W
   row w = (w, at w)
-
-  firsts_are : (ws : List (List ℕ)) → map (λ (r : List ℕ × W). r.0) (map row ws) ≡ ws
-  firsts_are [] = refl
-  firsts_are (w ∷ ws) = ap (λ l. w ∷ l) (firsts_are ws)
-
-  all_rows : (ws : List (List ℕ)) → AllByRecursion (λ (r : List ℕ × W). r ≡ row r.0) (map row ws)
-  all_rows [] = tt
-  all_rows (w ∷ ws) = (refl, all_rows ws)
-
-  again : (rs : List (List ℕ × W)) → AllByRecursion (λ (r : List ℕ × W). r ≡ row r.0) rs → rs ≡ map row (map (λ (r : List ℕ × W). r.0) rs)
-  again [] h = refl
-  again (r ∷ rs) h = λ j. h.0 j ∷ again rs h.1 j
-
-  -- rows in order are those of the same words in order
-  sorted_rows : (ws goal : List (List ℕ)) (sorted : List (List ℕ × W)) → IsPermutation (map row ws) sorted → IsSortedByKey (λ (r : List ℕ × W). r.0) word_cmp sorted → AreDistinct ws
-      → IsStrictlySortedBy word_cmp goal → ((q : List ℕ) → IsIn q ws → IsIn q goal) → ((q : List ℕ) → IsIn q goal → IsIn q ws) → sorted ≡ map row goal
-  sorted_rows ws goal sorted p order apart rising over back =
-      let first = λ (r : List ℕ × W). r.0 in
-      let same : IsPermutation ws (map (λ (r : List ℕ × W). r.0) sorted) = subst (λ l. IsPermutation l (map (λ (r : List ℕ × W). r.0) sorted)) (firsts_are ws) (IsPermutation-map (λ (r : List ℕ × W). r.0) (map row ws) sorted p) in
-      let up = rises (λ (r : List ℕ × W). r.0) sorted order (distinct_permutation ws (map first sorted) same apart) in
-      let named = same_in_order (map first sorted) goal up rising (λ q h. over q (in_permutation ws (map first sorted) same q h)) (λ q h. out_permutation ws (map first sorted) same q (back q h)) in
-      again sorted (recursion_from_All (λ (r : List ℕ × W). r ≡ row r.0) sorted (All-permutation (λ (r : List ℕ × W). r ≡ row r.0) (map row ws) sorted p (All-from_recursion (λ (r : List ℕ × W). r ≡ row r.0) (map row ws) (all_rows ws))))
-      ∙ ap (map row) named
 
   -- rows that pass a test are those of the words that do
   among_map : (zero : W → Bool) (ws : List (List ℕ)) → rows_among zero (map row ws) ≡ map row (filter (λ w. not (zero (at w))) ws)
@@ -169,27 +143,29 @@ module _ {E : Type 0} (c : Symbols E) (laws : RingLaws c.ring c.held) (lawful : 
             (λ l p x e. let stands = p.1 in weight_given c laws l.state stands.of.of stands.amps lawful.proper lawful.equations lawful.unit lawful.weighted x e ∙ ap (comb_weight c) (sym stands.is))
             ends.sound
 
-        -- the rows of the ends in order are those of the plan
-        in_order : (rows sorted : List (List ℕ × E)) → rows_at c live ≡ Some rows → IsPermutation rows sorted → IsSortedByKey (λ (r : List ℕ × E). r.0) word_cmp sorted
-            → sorted ≡ Outcomes.rows (outcomes_of c tree commands)
-        in_order rows sorted made p order =
+        -- the rows of the ends are those of the plan
+        in_order : (rows : List (List ℕ × E)) → rows_at c live ≡ Some rows → IsStrictlySortedBy word_cmp (words_of live) → rows ≡ Outcomes.rows (outcomes_of c tree commands)
+        in_order rows made rising =
             let at = λ (w : List ℕ). comb_weight c (word_state (comb_acts c) w (letters 0 commands) (leaves tree, start_vector c tree)) in
             let test = λ (w : List ℕ). not (c.held.is_zero (comb_weight c (word_state (comb_acts c) w (letters 0 commands) (leaves tree, start_vector c tree)))) in
             let all = words c.count (measurements commands) in
-            let are : rows ≡ map (row at) (filter test (words_of live)) = rows_are c at live [] rows weighs made ∙ among_map at c.held.is_zero (words_of live) in
             let each = words_are_all c.count (measurements commands) in
-            sorted_rows at (filter test (words_of live)) (filter test all) sorted (subst (λ l. IsPermutation l sorted) are p) order (distinct_filter test (words_of live) ends.distinct)
-            (IsStrictlySortedBy-filter word_cmp test all each.rising)
+            let same = same_in_order (filter test (words_of live)) (filter test all) (IsStrictlySortedBy-filter word_cmp test (words_of live) rising) (IsStrictlySortedBy-filter word_cmp test all each.rising)
             (λ q h.
             let there = filter_in test q (words_of live) h in
             in_filter test q all (each.all q (right_in c.count (measurements commands) (comb_acts c) (IsLawfulVector c (size tree)) (comb_nought c) (StandsFor c (size tree)) (letters 0 commands) (leaves tree, start_vector c tree) q live ends.sound there.0).1) there.1)
             (λ q h.
             let there = filter_in test q all h in
-            in_filter test q (words_of live) (ends.complete q (each.full q there.0) (counted_some q (ends.good q) there.1)) there.1)
-            ∙ sym (among_map at c.held.is_zero all)
+            in_filter test q (words_of live) (ends.complete q (each.full q there.0) (counted_some q (ends.good q) there.1)) there.1) in
+            rows_are c at live [] rows weighs made ∙ (among_map at c.held.is_zero (words_of live) ∙ (ap (map (row at)) same ∙ sym (among_map at c.held.is_zero all)))
 
-  pub rows_are_outcomes : RowsAreOutcomes c
-  rows_are_outcomes tree commands ended sorted some is gaps timely ends p order =
+  -- the one word at the beginning
+  start_rises : (m : ℕ) (s : State E) → RisesTo m 0 (words_of (start_word m s))
+  unfolding IsStrictlySortedBy
+  start_rises m s = record { sorted = (tt, tt); long = (length-replicate m 0, tt) }
+
+  pub ends_in_outcomes : EndsInOutcomes c
+  ends_in_outcomes tree commands ended some is gaps timely ends =
       let start = own_state c.ring tree in
       let sum = ok_first (fitting 0 (stated_weight c start)) (λ (total : E). rows_from c (size tree) start commands >>> λ (rows : List (List ℕ × E)). Ok (record { total = total; rows = rows })) ended ends in
       let rest = ok_first (rows_from c (size tree) start commands) (λ (rows : List (List ℕ × E)). Ok (record { total = sum.0; rows = rows })) ended sum.2 in
@@ -203,6 +179,10 @@ module _ {E : Type 0} (c : Symbols E) (laws : RingLaws c.ring c.held) (lawful : 
       ap (λ (o : Outcomes E). o.total) (sym is_ended)
       ∙ (weight_given c laws start stands.of.of stands.amps lawful.proper lawful.equations lawful.unit lawful.weighted sum.0 (fitting_some 0 (stated_weight c start) sum.0 sum.1)
       ∙ ap (weight c (leaves tree)) (own_stands c lawful.proper laws tree is some)) in
-      let same : ended.rows ≡ rest.0 = ap (λ (o : Outcomes E). o.rows) (sym is_ended) in
-      let rows = in_order tree some is commands live.0 are rest.0 sorted (fitting_some (1 + length commands) (rows_at c live.0) rest.0 live.2) (subst (λ l. IsPermutation l sorted) same p) order in
+      let none : 0 + measurements commands ≡ measurements commands = omega arith in
+      let to : RisesTo (measurements commands) (0 + measurements commands) (words_of live.0) =
+      run_rises (tree_told c (size tree)) (parts_rise c (size tree)) (measurements commands) 1 0 commands (start_word (measurements commands) start) live.0 (omega arith) live.1 (start_rises (measurements commands) start) in
+      let rising = rises_whole (measurements commands) (words_of live.0) (subst (λ n. RisesTo (measurements commands) n (words_of live.0)) none to) in
+      let rows : ended.rows ≡ Outcomes.rows (outcomes_of c tree commands) =
+      ap (λ (o : Outcomes E). o.rows) (sym is_ended) ∙ in_order tree some is commands live.0 are rest.0 (fitting_some (1 + length commands) (rows_at c live.0) rest.0 live.2) rising in
       λ j. record { total = total j; rows = rows j }

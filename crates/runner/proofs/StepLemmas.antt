@@ -1,20 +1,16 @@
 -- Steps of a state, as they are stated.
-use Rattle.std.proofs.Common.{◌≡◌, ℕ, ◌-◌, ◌<◌, true, false, List, [], ◌∷◌, length, Some, None, ap, sym, ◌∙◌, subst, arith}
-use Rattle.std.specs.Prelude.{All, if◌then◌else◌, ◌==◌, ◌&&◌, is_some, nat_lt}
+use Rattle.std.proofs.Common.{◌≡◌, ℕ, ◌-◌, true, false, List, [], ◌∷◌, length, Some, None, ap, sym, ◌∙◌, subst}
+use Rattle.std.specs.Prelude.{All, is_some}
 use Rattle.std.specs.List.{AllByRecursion}
-use Rattle.std.proofs.lemmas.Bool.Decides.{nat_tests}
 use Rattle.std.proofs.lemmas.List.Elements.{All-from_recursion}
 use Rattle.ring_laws.specs.Ring.{RingLaws}
 use Rattle.ring_laws.proofs.SumLemmas as S
 use Rattle.symbol_table.specs.Symbols.{Symbols}
-use Rattle.tree_shapes.specs.Outlines.{Outline, size, raise_at}
-use Rattle.tree_shapes.specs.Settling.{is_pair_at}
-use Rattle.program_text.specs.Form.{is_gap}
+use Rattle.tree_shapes.specs.Outlines.{raise_at}
 use Rattle.word_runs.specs.Parts.{parts_of}
 use Rattle.word_runs.specs.declared.engine.Part.{Part}
 use Rattle.word_runs.specs.declared.engine.Step.TheVariants.{Raise, Exchange}
 use Rattle.comb_laws.specs.Plans.{words}
-use Rattle.comb_laws.proofs.PathFacts.{and_true}
 use Rattle.amp_store.specs.Amplitudes.{AreAmplitudes, amplitude_of}
 use Rattle.amp_store.proofs.AmongLemmas.{all_pass, one_fails}
 use Rattle.recouple.specs.Rotations.{IsKey}
@@ -23,7 +19,7 @@ use Rattle.braid_act.specs.Exchanges.{exchange_fits, exchanged}
 use Rattle.charge_project.specs.Splits.{part_at, parts_below}
 use Rattle.runner.specs.Shapes.{all_parts}
 use Rattle.runner.specs.Trees.{IsTreeState, entries_of, raise_fits, raised_state, stepped_at}
-use Rattle.runner.proofs.EntryLemmas.{entries_are, key_there}
+use Rattle.runner.specs.Entries.{entries_are, key_there}
 use Rattle.program_text.specs.declared.plan.Sign.{Sign}
 
 module _ {E : Type 0} (c : Symbols E) (k : ℕ) (s : State E) where
@@ -49,25 +45,6 @@ module _ {E : Type 0} (c : Symbols E) (k : ℕ) (s : State E) where
 
   pub exchange_stops : (sign : Sign) → exchange_fits c sign k s ≡ false → stepped_at c (Exchange k sign) s ≡ None
   exchange_stops sign off = S.if_no (exchange_fits c sign k s) (Some (exchanged c sign k s)) None off
-
--- what a pair of the engine is
-pub record IsPairOf (n k : ℕ) (t : Outline) : Type 0 where
-  pub low : 0 < k
-  pub high : k < n
-  pub pair : is_pair_at t k ≡ true
-
-pub pair_of : (n k : ℕ) (t : Outline) → size t ≡ n → (is_gap n k && (if size t == n then is_pair_at t k else true)) ≡ true → IsPairOf n k t
-pair_of n k t long h =
-    let parts = and_true (is_gap n k) (if size t == n then is_pair_at t k else true) h in
-    let gap = and_true (nat_lt 0 k) (nat_lt k n) parts.0 in
-    record {
-      low = less_is 0 k gap.0;
-      high = less_is k n gap.1;
-      pair = sym (S.if_yes (size t == n) (is_pair_at t k) true (S.test_true (size t) n long)) ∙ parts.1;
-    }
-  where
-    less_is : (a b : ℕ) → nat_lt a b ≡ true → a < b
-    less_is a b e = grind (arith, nat_tests)
 
 -- the parts of a state of the engine are such states
 pub parts_are : {E : Type 0} (c : Symbols E) (k count : ℕ) (s : State E) (n : ℕ) → length s.strands ≡ n → ((q : ℕ) → IsStateOf c (part_at k s q)) → (ps : List (Part (State E)))

@@ -1,6 +1,10 @@
+pub mod EngineFacts
+pub mod Entries
 pub mod Evaluated
 pub mod Meaning
 pub mod Outcomes
+pub mod PairFacts
+pub mod RaiseFacts
 pub mod Rows
 pub mod Shapes
 pub mod Trees

@@ -6,12 +6,13 @@
 //!   (`specs/Trees.antt`), and which weights follow (`specs/Evaluated.antt`); runs of words over such states are those of
 //!   `word_runs`.
 //! - *row*: a word of outcomes and its weight ([`Row`]).
-//! - *stands for*: a state of the engine stands for its strands and its comb vector (`specs/Meaning.antt`); so the rows of a
-//!   run, sorted by their words, are those of the plan (`specs/Outcomes.antt`).
+//! - *stands for*: a state of the engine stands for its strands and its comb vector (`specs/Meaning.antt`); so the rows of
+//!   a run are those of the plan (`specs/Outcomes.antt`).
 #![tactic(auto)]
 
 mod engine;
 pub mod laws;
+mod meaning;
 mod rows;
 mod run;
 mod steps;

@@ -11,11 +11,14 @@ ghost use Rattle.program_text.specs.Letters.{IsTestOf, gap_of, letters, measurem
 ghost use Rattle.word_runs.specs.Told.{IsGap};
 ghost use Rattle.word_runs.specs.Runs.{Runs};
 ghost use Rattle.word_runs.specs.Lives.{live_of, lives_of};
+ghost use Rattle.comb_laws.specs.Plans.{outcomes_of};
+ghost use Rattle.run_laws.specs.Timely.{is_timely};
 ghost use Rattle.recouple.specs.States.{IsStateOf};
 ghost use Rattle.runner.specs.Trees.{IsTreeState, tree_told};
 ghost use Rattle.runner.specs.Evaluated.{evaluation_of, row_step, rows_at, rows_from};
 ghost use Rattle.runner.specs.Rows.{outcomes_in, rows_of};
 
+use crate::laws::rows;
 use crate::run::{begin, run_from};
 use charge_project::weight;
 use program_text::Command;
@@ -33,7 +36,7 @@ pub struct Row<R: StarRing> {
     pub weight: R::Elem,
 }
 
-/// The total weight of the start, and the words whose weight isn't zero, in the order in which they are made.
+/// The total weight of the start, and the words whose weight isn't zero, in the order of lists of labels.
 #[derive(Drop)]
 pub struct Rows<R: StarRing> {
     pub total: R::Elem,
@@ -115,7 +118,8 @@ fn end_rows<R: StarRing>(
 }
 
 /// The total and the rows of commands from an admissible tree of 2 to [`STRAND_LIMIT`](tree_shapes::STRAND_LIMIT)
-/// strands: the weight of the start, and each word of outcomes whose weight isn't zero, with its weight.
+/// strands: the weight of the start, and each word of outcomes whose weight isn't zero, with its weight, in the order of
+/// lists of labels. They are those of the plan by the comb operators, whatever the tree's shape.
 ///
 /// Each command is at a gap of the strands. `Overflow` comes exactly at the turn of the first item that doesn't fit: turn
 /// 0 evaluates the total, each command is a turn, and the turn after the last one evaluates the weights of the words.
@@ -133,8 +137,13 @@ pub fn run_rows<R: StarRing>(
     requires tests { AllByRecursion (IsTestOf (measurements commands.now)) commands.now }
     requires short { length commands.now < 2 ^ 31 }
     // It stops exactly where the stated evaluation does.
-    ensures { Runs outcomes_in result (evaluation_of (symbols R.StarRing category.now) (labelled tree.now) commands.now) }
+    ensures stated { Runs outcomes_in result (evaluation_of (symbols R.StarRing category.now) (labelled tree.now) commands.now) }
+    // Where each outcome is there when it is tested, its total and its rows are those of the plan.
+    ensures planned { let c = symbols R.StarRing category.now in
+        is_timely [] (letters 0 commands.now) ≡ true → IfOk result (λ rows. outcomes_in rows ≡ outcomes_of c (labelled tree.now) commands.now) }
 {
+    // What the evaluation means.
+    rows(category);
     let state = begin(alloc, category, tree)?;
     let Ok(total) = weight(category, &state) else {
         return Err(RunFault::Stop(RunStop::Overflow { turn: 0 }));

@@ -1,5 +1,5 @@
 -- A raised state is one of the engine, and stands for the same.
-use Rattle.std.proofs.Common.{◌≡◌, ℕ, zero, suc, ◌+◌, ◌-◌, ◌<◌, ◌≤◌, Bool, true, false, ◌||◌, not, List, [], ◌∷◌, map, length, get_or, Option, Some, None, unwrap_or, ◌⊎◌, inl, inr, refl, ap, sym, ◌∙◌, subst, arith}
+use Rattle.std.proofs.Common.{◌≡◌, ℕ, suc, ◌+◌, ◌-◌, ◌<◌, ◌≤◌, Bool, true, false, ◌||◌, not, List, [], ◌∷◌, map, length, get_or, Option, Some, None, unwrap_or, ◌⊎◌, inl, inr, refl, ap, sym, ◌∙◌, subst, arith}
 use mathlib.Core.Path.{fun_ext}
 use Rattle.std.specs.Prelude.{if◌then◌else◌, ◌&&◌, IsTrue, slice_index}
 use Rattle.std.specs.Str.{bytes_eq}
@@ -21,19 +21,17 @@ use Rattle.amp_store.proofs.EditLemmas.{eq_turned}
 use Rattle.amp_store.proofs.GatherLemmas.{same_key}
 use Rattle.amp_store.proofs.OrderLemmas.{sorted_filter}
 use Rattle.comb_laws.specs.Plans.{words}
-use Rattle.run_laws.specs.Meaning.{IsFull}
 use Rattle.run_laws.proofs.OrderLemmas.{any_in, words_are_all}
 use Rattle.recouple.specs.Rotations.{IsKey, IsRotation, before, after, from_left, rotation_of}
 use Rattle.recouple.specs.Raises.{AreOver, factor, has_factor, raise_term, raised}
-use Rattle.recouple.specs.States.{State, IsStateOf, comb, raise_by, raise_of}
+use Rattle.recouple.specs.States.{State, IsStateOf, raise_by, raise_of}
 use Rattle.recouple.proofs.KeyLemmas.{after_before, after_key, long_before}
 use Rattle.recouple.proofs.RotationLemmas.{no_rotation}
 use Rattle.recouple.proofs.StateLemmas as R
-use Rattle.recouple.proofs.ValueLemmas.{amplitude_member}
 use Rattle.tree_shapes.proofs.ContextLemmas.{size_above}
-use Rattle.runner.specs.Trees.{IsTreeState, entries_of, raised_state}
+use Rattle.runner.specs.Trees.{entries_of, raised_state}
 use Rattle.runner.specs.Meaning.{StandsFor}
-use Rattle.runner.proofs.EntryLemmas.{counts, entries_are, filtered, key_there, with_number, words_rise}
+use Rattle.runner.specs.Entries.{counts, entries_are, filtered, key_there, with_number, words_rise}
 
 -- the entries of a number of each key
 module _ {E : Type 0} (c : Symbols E) (v : List ℕ → E) where

@@ -1,19 +1,16 @@
 -- The engine on trees is faithful to comb vectors.
-use Rattle.std.proofs.Common.{◌≡◌, ℕ, ◌<◌, Bool, true, false, List, length, Option, Some, None, refl, ap, sym, ◌∙◌, subst, arith}
+use Rattle.std.proofs.Common.{◌≡◌, ℕ, Bool, true, false, List, Some, None, ap, sym, ◌∙◌, subst}
 use Rattle.std.specs.Prelude.{if◌then◌else◌}
 use Rattle.ring_laws.specs.Ring.{RingLaws}
 use Rattle.ring_laws.proofs.StatedLemmas.{some_inj}
 use Rattle.symbol_table.specs.Symbols.{Symbols}
 use Rattle.tree_shapes.specs.Outlines.{Outline}
 use Rattle.word_runs.specs.Told.{Told}
-use Rattle.word_runs.specs.declared.engine.Step.TheVariants.{Raise, Exchange}
-use Rattle.program_text.specs.declared.plan.Sign.{Sign}
 use Rattle.comb_laws.specs.Paths.{Vector}
 use Rattle.comb_laws.specs.Words.{comb_acts}
-use Rattle.comb_laws.specs.declared.operator.Operator.{Operator}
 use Rattle.comb_laws.specs.declared.operator.Operator.TheVariants as operator
 use Rattle.path_laws.proofs.FarLemmas.{far_operators}
-use Rattle.run_laws.specs.Combs.{AreCombVectors, IsCombVector, comb_nought, comb_weight}
+use Rattle.run_laws.specs.Combs.{AreCombVectors, comb_nought, comb_weight}
 use Rattle.run_laws.specs.Meaning.{ArePartsOf, IsFaithful}
 use Rattle.run_laws.specs.Rows.{IsWeighing}
 use Rattle.run_laws.specs.Schedules.{CommuteFar}
@@ -24,10 +21,9 @@ use Rattle.charge_project.specs.Splits.{parts_below}
 use Rattle.charge_project.specs.Weights.{stated_weight}
 use Rattle.charge_project.proofs.WeightLemmas.{weight_given}
 use Rattle.runner.specs.Meaning.{IsLawfulVector, StandsFor}
-use Rattle.runner.specs.Trees.{raise_fits, raised_state, stepped_at, tree_told}
-use Rattle.runner.proofs.PairMeaning.{exchange_means, parts_mean}
-use Rattle.runner.proofs.RaiseMeaning.{raise_means}
-use Rattle.runner.proofs.StepLemmas.{IsPairOf, pair_of}
+use Rattle.runner.specs.Trees.{raise_fits, raised_state, tree_told}
+use Rattle.runner.specs.PairFacts.{IsPairOf, exchange_means, pair_of, parts_mean}
+use Rattle.runner.specs.RaiseFacts.{raise_means}
 
 some_of : {A : Type 0} (b : Bool) (x y : A) → (if b then Some x else None) ≡ Some y → x ≡ y
 some_of true x y e = some_inj x y e

@@ -1,13 +1,16 @@
 -- What an exchange and a split at a pair leave stands for the comb braid and the comb projections.
-use Rattle.std.proofs.Common.{◌≡◌, ℕ, zero, suc, ◌+◌, ◌-◌, ◌<◌, Bool, true, false, List, [], ◌∷◌, ◌++◌, map, length, Option, Some, None, refl, ap, sym, ◌∙◌, subst, arith}
-use Rattle.std.specs.Prelude.{if◌then◌else◌, slice_get, slice_index, ◌==◌}
-use Rattle.std.specs.List.{AllByRecursion, filter, list_all}
+use Rattle.std.proofs.Common.{◌≡◌, ℕ, zero, suc, ◌+◌, ◌-◌, ◌<◌, Bool, true, false, List, [], ◌∷◌, ◌++◌, map, refl, ap, sym, ◌∙◌, subst, arith}
+use Rattle.std.specs.Prelude.{if◌then◌else◌, slice_index, ◌==◌, ◌&&◌, nat_lt}
+use Rattle.std.specs.List.{AllByRecursion, filter}
+use Rattle.tree_shapes.specs.Settling.{is_pair_at}
+use Rattle.program_text.specs.Form.{is_gap}
+use Rattle.comb_laws.proofs.PathFacts.{and_true}
+use Rattle.ring_laws.proofs.SumLemmas as S
+use Rattle.std.proofs.lemmas.Bool.Decides.{nat_tests}
 use Rattle.ring_laws.specs.Ring.{RingLaws}
-use Rattle.ring_laws.proofs.StatedLemmas.{some_inj}
 use Rattle.symbol_table.specs.Symbols.{Symbols}
-use Rattle.tree_shapes.specs.Outlines.{size}
+use Rattle.tree_shapes.specs.Outlines.{Outline, size}
 use Rattle.program_text.specs.declared.plan.Sign.{Sign}
-use Rattle.word_runs.specs.Told.{IsGap}
 use Rattle.word_runs.proofs.EachLemmas.{all_append, all_map}
 use Rattle.comb_laws.specs.Operators.{exchange_by, swapped}
 use Rattle.comb_laws.specs.Paths.{Path, Vector, is_path, labels, paths}
@@ -15,7 +18,7 @@ use Rattle.comb_laws.specs.Words.{comb_acts}
 use Rattle.comb_laws.specs.declared.operator.Operator.TheVariants as operator
 use Rattle.path_laws.proofs.ActLemmas.{length-swapped}
 use Rattle.run_laws.specs.Combs.{comb_nought}
-use Rattle.run_laws.specs.Meaning.{IsIn, AreDistinct, ArePartsOf}
+use Rattle.run_laws.specs.Meaning.{AreDistinct, ArePartsOf}
 use Rattle.run_laws.proofs.DistinctLemmas.{in_map}
 use Rattle.run_laws.proofs.OrderLemmas.{in_filter, in_labels}
 use Rattle.amp_store.specs.Amplitudes.{AreAmplitudes}
@@ -24,7 +27,7 @@ use Rattle.amp_store.proofs.CopyLemmas.{amplitudes_part}
 use Rattle.amp_store.proofs.OrderLemmas.{filter_all}
 use Rattle.recouple.specs.States.{State, IsStateOf, comb}
 use Rattle.recouple.proofs.PairLemmas.{IsPair, pair_there}
-use Rattle.braid_act.specs.Exchanges.{exchange_at, exchanged, HasEntry}
+use Rattle.braid_act.specs.Exchanges.{exchange_at, exchanged}
 use Rattle.braid_act.proofs.BraidLemmas.{braid_is}
 use Rattle.braid_act.proofs.MapLemmas.{are_amplitudes}
 use Rattle.braid_act.proofs.StateLemmas as B
@@ -32,11 +35,28 @@ use Rattle.braid_act.proofs.SymbolLemmas.{kept}
 use Rattle.charge_project.specs.Splits.{any_left, part_at, parts_below}
 use Rattle.charge_project.proofs.ProjectLemmas.{part_of, project_is}
 use Rattle.runner.specs.Meaning.{AreLawful, StandsFor}
-use Rattle.runner.specs.Trees.{IsTreeState}
-use Rattle.runner.proofs.StepLemmas.{IsPairOf}
+
+-- what a pair of the engine is
+pub record IsPairOf (n k : ℕ) (t : Outline) : Type 0 where
+  pub low : 0 < k
+  pub high : k < n
+  pub pair : is_pair_at t k ≡ true
+
+pub pair_of : (n k : ℕ) (t : Outline) → size t ≡ n → (is_gap n k && (if size t == n then is_pair_at t k else true)) ≡ true → IsPairOf n k t
+pair_of n k t long h =
+    let parts = and_true (is_gap n k) (if size t == n then is_pair_at t k else true) h in
+    let gap = and_true (nat_lt 0 k) (nat_lt k n) parts.0 in
+    record {
+      low = less_is 0 k gap.0;
+      high = less_is k n gap.1;
+      pair = sym (S.if_yes (size t == n) (is_pair_at t k) true (S.test_true (size t) n long)) ∙ parts.1;
+    }
+  where
+    less_is : (a b : ℕ) → nat_lt a b ≡ true → a < b
+    less_is a b e = grind (arith, nat_tests)
 
 -- the labels below n
-labels_low : (n : ℕ) → AllByRecursion (λ q. q < n) (labels n)
+pub labels_low : (n : ℕ) → AllByRecursion (λ q. q < n) (labels n)
 labels_low zero = tt
 labels_low (suc n) = all_append (λ q. q < suc n) (labels n) (n ∷ []) (all_map (λ q. q < n) (λ q. q < suc n) (labels n) (λ q low. omega arith) (labels_low n)) (omega arith, tt)
 
@@ -50,7 +70,7 @@ labels_apart : (n : ℕ) → AreDistinct (labels n)
 labels_apart zero = tt
 labels_apart (suc n) = apart_last n (labels n) (labels_apart n) (labels_low n)
 
-pub distinct_filter : {A : Type 0} (test : A → Bool) (xs : List A) → AreDistinct xs → AreDistinct (filter test xs)
+distinct_filter : {A : Type 0} (test : A → Bool) (xs : List A) → AreDistinct xs → AreDistinct (filter test xs)
 distinct_filter test [] d = tt
 distinct_filter {A} test (x ∷ xs) d = pick (test x) (distinct_filter test xs d.1)
   where
@@ -59,7 +79,7 @@ distinct_filter {A} test (x ∷ xs) d = pick (test x) (distinct_filter test xs d
     pick false rest = rest
 
 -- the names of those that pass a test
-names_kept : {A : Type 0} (f : ℕ → A) (test : ℕ × A → Bool) (qs : List ℕ) → map (λ (p : ℕ × A). p.0) (filter test (map (λ q. (q, f q)) qs)) ≡ filter (λ q. test (q, f q)) qs
+pub names_kept : {A : Type 0} (f : ℕ → A) (test : ℕ × A → Bool) (qs : List ℕ) → map (λ (p : ℕ × A). p.0) (filter test (map (λ q. (q, f q)) qs)) ≡ filter (λ q. test (q, f q)) qs
 names_kept f test [] = refl
 names_kept {A} f test (q ∷ qs) = pick (test (q, f q)) (names_kept f test qs)
   where

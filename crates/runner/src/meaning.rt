@@ -1,0 +1,59 @@
+//! What the states of the engine on trees stand for.
+
+ghost use Rattle.std.specs.Prelude.{ℕ, List};
+ghost use Rattle.symbol_table.specs.Category.{draft_symbols, symbols};
+ghost use Rattle.tree_shapes.specs.Outlines.{Outline};
+ghost use Rattle.comb_laws.specs.Paths.{Vector};
+ghost use Rattle.comb_laws.specs.Words.{comb_acts};
+ghost use Rattle.run_laws.specs.Combs.{comb_nought, comb_weight};
+ghost use Rattle.recouple.specs.States.{State};
+ghost use Rattle.charge_project.specs.Weights.{stated_weight};
+ghost use Rattle.runner.specs.Meaning.{IsLawfulVector, StandsFor};
+ghost use Rattle.runner.specs.Trees.{tree_told};
+ghost use Rattle.runner.specs.Shapes.{tree_shapes};
+ghost use Rattle.runner.specs.EngineFacts.{engine_far, engine_faithful, engine_weighing};
+
+use crate::engine::TreeEngine;
+use ring_laws::StarRing;
+use run_laws::Meaning;
+
+/// A state stands for its strands and its comb vector, where the symbols are those of a category.
+impl<'a, R: StarRing> Meaning for TreeEngine<'a, R> {
+    ghost Seen = { State R.Elem };
+
+    ghost Shape = { Outline };
+
+    ghost Vector = { List ℕ × Vector R.Elem };
+
+    ghost told = { λ e. tree_told (symbols R.StarRing e.category.now) e.strands };
+
+    ghost count = { λ e. e.category.now.rules.count };
+
+    ghost act = { λ e. comb_acts (symbols R.StarRing e.category.now) };
+
+    ghost Good = { λ e v. IsLawfulVector (symbols R.StarRing e.category.now) e.strands v };
+
+    ghost nought = { λ e. comb_nought (symbols R.StarRing e.category.now) };
+
+    ghost Stands = { λ e s v. StandsFor (symbols R.StarRing e.category.now) e.strands s v };
+
+    ghost Weight = { R.Elem };
+
+    ghost weigh = { λ e. stated_weight (symbols R.StarRing e.category.now) };
+
+    ghost weight = { λ e. comb_weight (symbols R.StarRing e.category.now) };
+
+    ghost zero = { λ e. R.held.is_zero };
+
+    ghost shapes = { λ e. tree_shapes (draft_symbols (R.ring e.category.now.ring) R.held e.category.now) e.strands };
+
+    ghost faithful = { λ e. engine_faithful (draft_symbols (R.ring e.category.now.ring) R.held e.category.now) (R.laws e.category.now.ring) e.strands };
+
+    ghost far = { λ e. engine_far (draft_symbols (R.ring e.category.now.ring) R.held e.category.now) (R.laws e.category.now.ring) e.strands };
+
+    ghost weighing = { λ e. engine_weighing (draft_symbols (R.ring e.category.now.ring) R.held e.category.now) (R.laws e.category.now.ring) e.strands };
+
+    fn labels(&self) -> u8 {
+        self.category.rules().count()
+    }
+}
