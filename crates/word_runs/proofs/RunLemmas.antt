@@ -1,9 +1,10 @@
 -- The turns of commands, one after another.
-use Rattle.std.proofs.Common.{◌≡◌, ℕ, ◌+◌, ◌<◌, ◌≤◌, List, [], ◌∷◌, replicate, refl, ap, sym, subst, ◌∙◌, arith}
+use Rattle.std.proofs.Common.{◌≡◌, ℕ, ◌+◌, ◌<◌, ◌≤◌, List, [], ◌∷◌, length, replicate, suc, refl, ap, sym, subst, ◌∙◌, arith}
 use Rattle.std.specs.Prelude.{Result, Ok}
 use Rattle.std.specs.List.{AllByRecursion}
 use Rattle.std.proofs.lemmas.List.{length-replicate}
 use Rattle.program_text.specs.Letters.{IsTestOf, gap_of, letter_at, letters, outcomes_of, measurements}
+use Rattle.program_text.specs.declared.letter.Letter.{Letter}
 use Rattle.program_text.specs.declared.plan.Command.{Command}
 use Rattle.program_text.specs.declared.plan.Command.TheVariants.{Braid, Raise, Measure, BraidWhen}
 use Rattle.word_runs.specs.Told.{Told, IsGap}
@@ -27,6 +28,11 @@ outcomes_few (Raise k) = omega arith
 outcomes_few (Measure k) = omega arith
 outcomes_few (BraidWhen k sign place label) = omega arith
 
+-- as many letters as commands
+pub letters_long : (p : ℕ) (cs : List Command) → length (letters p cs) ≡ length cs
+letters_long p [] = refl
+letters_long p (c ∷ cs) = ap suc (letters_long (p + outcomes_of c) cs)
+
 module _ {M T : Type 0} (e : Told M T) where
   letter_fit : (m p : ℕ) (c : Command) (cs : List Command) → p + measurements (c ∷ cs) ≤ m → IsTestOf m c → IsGap e (gap_of (letter_at p c)) → IsFit e m (letter_at p c)
   letter_fit m p (Braid k sign) cs low test gap = record { gap = gap; place = tt }
@@ -42,17 +48,14 @@ module _ {M T : Type 0} (e : Told M T) where
       (letter_fit m p c cs low tests.0 gaps.0, letters_fit m (p + outcomes_of c) cs (omega (arith, more)) tests.1 gaps.1)
 
   -- a turn that ends hands on what the turns behind it see
-  pub turn_more : (turn place : ℕ) (c : Command) (cs : List Command) (old new : List (Live M)) (stated : Result (List (Live M)) RunStop)
-      → turn_of e turn (letter_at place c) old ≡ Ok new
-      → run_of e turn (letters place (c ∷ cs)) old ≡ stated → run_of e (turn + 1) (letters (place + outcomes_of c) cs) new ≡ stated
-  turn_more turn place c cs old new stated h s = sym (ap (λ r. r >>> run_of e (turn + 1) (letters (place + outcomes_of c) cs)) h) ∙ s
+  pub turn_more : (turn : ℕ) (l : Letter) (ls : List Letter) (old new : List (Live M)) (stated : Result (List (Live M)) RunStop)
+      → turn_of e turn l old ≡ Ok new → run_of e turn (l ∷ ls) old ≡ stated → run_of e (turn + 1) ls new ≡ stated
+  turn_more turn l ls old new stated h s = sym (ap (λ r. r >>> run_of e (turn + 1) ls) h) ∙ s
 
   -- a turn that stops is the stop of the run
-  pub turn_stops : (turn place : ℕ) (c : Command) (cs : List Command) (old : List (Live M)) (fault : RunFault) (stated : Result (List (Live M)) RunStop)
-      → Stops fault (turn_of e turn (letter_at place c) old)
-      → run_of e turn (letters place (c ∷ cs)) old ≡ stated → Stops fault stated
-  turn_stops turn place c cs old fault stated h s =
-      subst (Stops fault) s (stops_on fault (turn_of e turn (letter_at place c) old) (run_of e (turn + 1) (letters (place + outcomes_of c) cs)) h)
+  pub turn_stops : (turn : ℕ) (l : Letter) (ls : List Letter) (old : List (Live M)) (fault : RunFault) (stated : Result (List (Live M)) RunStop)
+      → Stops fault (turn_of e turn l old) → run_of e turn (l ∷ ls) old ≡ stated → Stops fault stated
+  turn_stops turn l ls old fault stated h s = subst (Stops fault) s (stops_on fault (turn_of e turn l old) (run_of e (turn + 1) ls) h)
 
   -- the one live word at the beginning
   pub one_alike : (m : ℕ) (s : M) → AreAlike e m (record { word = replicate m 0; state = s } ∷ [])

@@ -20,7 +20,7 @@ pub use engine::{Engine, Part, Step};
 pub use fault::{RunFault, RunStop, StepFault};
 pub use limits::{AMPLITUDE_LIMIT, GREATEST_COUNT, WORD_LIMIT};
 pub use live::LiveWord;
-pub use run::run_commands;
+pub use run::{run_commands, run_letters};
 
 #[cfg(test)]
 mod tests;

@@ -1,14 +1,16 @@
-use Rattle.std.proofs.Common.{sym, subst, ap, ◌∙◌}
+use Rattle.std.proofs.Common.{◌∙◌, length, ap, arith}
 use Rattle.program_text.specs.Letters.{measurements}
-use Rattle.word_runs.specs.Runs.{start_word}
-use Rattle.word_runs.specs.Lives.{AreAlike}
-use Rattle.word_runs.proofs.RunLemmas.{one_alike}
+use Rattle.word_runs.proofs.RunLemmas.{letters_fit, letters_long}
 use Rattle.word_runs.proofs.run.run_commands.Goals as goal
 
-pub run_turns-requires-clause-alike : goal.run_turns-requires-clause-alike
-run_turns-requires-clause-alike g c =
+pub run_letters-requires-clause-fit : goal.run_letters-requires-clause-fit
+run_letters-requires-clause-fit g c =
     let e = g.E.Engine.told c.args.engine.now in
     let m = measurements c.args.commands.now in
-    let start = g.E.Engine.seen c.args.engine.now c.args.start in
-    let is = c.in_ok-live.ensures.value ∙ ap (λ n. start_word n start) c.measurements.ensures in
-    subst (AreAlike e m) (sym is) (one_alike e m start)
+    let all = letters_fit e m 0 c.args.commands.now (omega arith) c.requires.tests c.requires.gaps in
+    rw (c.measurements.ensures, c.deref.ensures.value, c.in_ok-letters.ensures) all
+
+pub run_letters-requires-clause-few : goal.run_letters-requires-clause-few
+run_letters-requires-clause-few g c =
+    let long = ap length (c.deref.ensures.value ∙ c.in_ok-letters.ensures) ∙ letters_long 0 c.args.commands.now in
+    omega (arith, long, c.requires.few)
