@@ -1,9 +1,8 @@
 -- Where an evaluation ends, its rows are those of the plan.
-use Rattle.std.proofs.Common.{◌≡◌, ℕ, ◌+◌, ◌≤◌, Bool, true, false, not, List, [], ◌∷◌, ◌++◌, map, length, Option, Some, None, append-nil, refl, ap, sym, ◌∙◌, subst, arith}
+use Rattle.std.proofs.Common.{◌≡◌, ℕ, ◌+◌, ◌≤◌, Bool, true, false, not, List, [], ◌∷◌, ◌++◌, map, length, Option, Some, None, append-nil, refl, ap, sym, ◌∙◌}
 use Rattle.std.specs.Prelude.{if◌then◌else◌, Result, Ok}
 use Rattle.std.specs.List.{AllByRecursion, filter}
 use Rattle.std.specs.List.Sorted.{IsStrictlySortedBy}
-use Rattle.std.proofs.lemmas.List.{length-replicate}
 use Rattle.std.proofs.lemmas.List.Kept.{IsStrictlySortedBy-filter}
 use Rattle.ring_laws.specs.Ring.{RingLaws}
 use Rattle.ring_laws.specs.Stated.{steps_over}
@@ -12,7 +11,7 @@ use Rattle.symbol_table.specs.Symbols.{Symbols}
 use Rattle.tree_shapes.specs.Labelled.{Labelled, is_admissible, leaves, node_labels, size}
 use Rattle.program_text.specs.Letters.{letters, measurements}
 use Rattle.program_text.specs.declared.plan.Command.{Command}
-use Rattle.word_runs.specs.Runs.{Live, ◌>>>◌, fitting, start_word}
+use Rattle.word_runs.specs.Runs.{Live, ◌>>>◌, fitting}
 use Rattle.word_runs.specs.declared.fault.RunStop.{RunStop}
 use Rattle.word_runs.proofs.EachLemmas.{all_map, ok_first}
 use Rattle.comb_laws.specs.Amplitudes.{start_vector}
@@ -28,6 +27,7 @@ use Rattle.run_laws.proofs.CombVectors.{are_comb_vectors}
 use Rattle.run_laws.proofs.EndMeaning.{text_ends}
 use Rattle.run_laws.proofs.OrderLemmas.{filter_in, in_filter, right_in, same_in_order, words_are_all}
 use Rattle.amp_store.specs.Amplitudes.{AreAmplitudes}
+use Rattle.run_laws.proofs.TextRises.{text_rises}
 use Rattle.recouple.specs.States.{State}
 use Rattle.recouple.proofs.StartLemmas.{own_of, own_stands}
 use Rattle.charge_project.specs.Weights.{stated_weight}
@@ -39,7 +39,6 @@ use Rattle.runner.specs.Shapes.{tree_shapes}
 use Rattle.runner.specs.Trees.{tree_told}
 use Rattle.runner.specs.EngineFacts.{engine_faithful}
 use Rattle.runner.proofs.PartOrder.{parts_rise}
-use Rattle.runner.proofs.WordOrder.{RisesTo, rises_whole, run_rises}
 
 -- words with what stands at each
 module _ {W : Type 0} (at : List ℕ → W) where
@@ -159,11 +158,6 @@ module _ {E : Type 0} (c : Symbols E) (laws : RingLaws c.ring c.held) (lawful : 
             in_filter test q (words_of live) (ends.complete q (each.full q there.0) (counted_some q (ends.good q) there.1)) there.1) in
             rows_are c at live [] rows weighs made ∙ (among_map at c.held.is_zero (words_of live) ∙ (ap (map (row at)) same ∙ sym (among_map at c.held.is_zero all)))
 
-  -- the one word at the beginning
-  start_rises : (m : ℕ) (s : State E) → RisesTo m 0 (words_of (start_word m s))
-  unfolding IsStrictlySortedBy
-  start_rises m s = record { sorted = (tt, tt); long = (length-replicate m 0, tt) }
-
   pub ends_in_outcomes : EndsInOutcomes c
   ends_in_outcomes tree commands ended some is gaps timely ends =
       let start = own_state c.ring tree in
@@ -179,10 +173,7 @@ module _ {E : Type 0} (c : Symbols E) (laws : RingLaws c.ring c.held) (lawful : 
       ap (λ (o : Outcomes E). o.total) (sym is_ended)
       ∙ (weight_given c laws start stands.of.of stands.amps lawful.proper lawful.equations lawful.unit lawful.weighted sum.0 (fitting_some 0 (stated_weight c start) sum.0 sum.1)
       ∙ ap (weight c (leaves tree)) (own_stands c lawful.proper laws tree is some)) in
-      let none : 0 + measurements commands ≡ measurements commands = omega arith in
-      let to : RisesTo (measurements commands) (0 + measurements commands) (words_of live.0) =
-      run_rises (tree_told c (size tree)) (parts_rise c (size tree)) (measurements commands) 1 0 commands (start_word (measurements commands) start) live.0 (omega arith) live.1 (start_rises (measurements commands) start) in
-      let rising = rises_whole (measurements commands) (words_of live.0) (subst (λ n. RisesTo (measurements commands) n (words_of live.0)) none to) in
+      let rising = text_rises (tree_told c (size tree)) (parts_rise c (size tree)) commands start live.0 live.1 in
       let rows : ended.rows ≡ Outcomes.rows (outcomes_of c tree commands) =
       ap (λ (o : Outcomes E). o.rows) (sym is_ended) ∙ in_order tree some is commands live.0 are rest.0 (fitting_some (1 + length commands) (rows_at c live.0) rest.0 live.2) rising in
       λ j. record { total = total j; rows = rows j }

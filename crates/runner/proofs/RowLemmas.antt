@@ -19,8 +19,8 @@ use Rattle.word_runs.proofs.EachLemmas.{next_item}
 use Rattle.recouple.specs.States.{State}
 use Rattle.charge_project.specs.Weights.{stated_weight}
 use Rattle.runner.specs.Evaluated.{ends_from, evaluation_of, own_state, row_step, rows_at, rows_from}
-use Rattle.runner.specs.Rows.{rows_of}
-use Rattle.runner.specs.declared.rows.Row.{Row}
+use Rattle.outcome_rows.specs.Rows.{rows_of}
+use Rattle.outcome_rows.specs.declared.rows.Row.{Row}
 
 -- one more row
 pub rows_pushed : {R E : Type 0} (old new : List (Row R E)) (row : Row R E) (word : List ℕ) → new ≡ old ++ row ∷ [] → row.word.items ≡ word → rows_of new ≡ rows_of old ++ (word, row.weight) ∷ []

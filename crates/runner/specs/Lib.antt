@@ -5,6 +5,5 @@ pub mod Meaning
 pub mod Outcomes
 pub mod PairFacts
 pub mod RaiseFacts
-pub mod Rows
 pub mod Shapes
 pub mod Trees

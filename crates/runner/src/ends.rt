@@ -1,4 +1,4 @@
-//! Runs of commands from a tree.
+//! The ends of commands from a tree.
 
 ghost use Rattle.std.specs.Prelude.{◌≡◌, ◌<◌, ◌≤◌, ◌^◌, length, IfOk, true};
 ghost use Rattle.std.specs.List.{AllByRecursion};

@@ -16,11 +16,12 @@ ghost use Rattle.run_laws.specs.Timely.{is_timely};
 ghost use Rattle.recouple.specs.States.{IsStateOf};
 ghost use Rattle.runner.specs.Trees.{IsTreeState, tree_told};
 ghost use Rattle.runner.specs.Evaluated.{evaluation_of, row_step, rows_at, rows_from};
-ghost use Rattle.runner.specs.Rows.{outcomes_in, rows_of};
+ghost use Rattle.outcome_rows.specs.Rows.{outcomes_in, rows_of};
 
+use crate::ends::{begin, run_from};
 use crate::laws::rows;
-use crate::run::{begin, run_from};
 use charge_project::weight;
+use outcome_rows::{Row, Rows};
 use program_text::Command;
 use recouple::TreeState;
 use ring_laws::{StarRing, is_zero};
@@ -28,20 +29,6 @@ use std::alloc::{AllocError, Global};
 use symbol_table::Category;
 use tree_shapes::Tree;
 use word_runs::{LiveWord, RunFault, RunStop, StepFault};
-
-/// A word of outcomes, one label for each measurement in text order, and its weight.
-#[derive(Drop)]
-pub struct Row<R: StarRing> {
-    pub word: Vec<u8>,
-    pub weight: R::Elem,
-}
-
-/// The total weight of the start, and the words whose weight isn't zero, in the order of lists of labels.
-#[derive(Drop)]
-pub struct Rows<R: StarRing> {
-    pub total: R::Elem,
-    pub list: Vec<Row<R>>,
-}
 
 /// Adds a row with a copy of its word.
 fn add_row<R: StarRing>(

@@ -7,8 +7,8 @@ use Rattle.word_runs.specs.Runs.{Runs}
 use Rattle.word_runs.specs.Lives.{lives_of}
 use Rattle.runner.specs.Trees.{IsTreeState}
 use Rattle.runner.specs.Evaluated.{ends_from}
-use Rattle.runner.proofs.run.run_from.Given.{Over}
-use Rattle.runner.proofs.run.run_from.Goals as goal
+use Rattle.runner.proofs.ends.run_from.Given.{Over}
+use Rattle.runner.proofs.ends.run_from.Goals as goal
 
 -- the engine has as many strands as the state
 strands_are : (g : Over) (c : goal.After-run_commands g) → c.leaves.result ≡ length c.args.state.strands

@@ -8,7 +8,7 @@ use Rattle.word_runs.specs.Runs.{Runs}
 use Rattle.word_runs.specs.Lives.{lives_of}
 use Rattle.runner.specs.Trees.{IsTreeState}
 use Rattle.runner.specs.Evaluated.{ends_from}
-use Rattle.runner.proofs.run.run_states.Goals as goal
+use Rattle.runner.proofs.ends.run_states.Goals as goal
 
 pub returns-clause-states : goal.returns-clause-states
 returns-clause-states g c =

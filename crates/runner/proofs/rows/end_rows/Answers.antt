@@ -8,7 +8,7 @@ use Rattle.word_runs.specs.declared.live.LiveWord.{LiveWord}
 use Rattle.word_runs.proofs.EachLemmas.{all_map}
 use Rattle.recouple.specs.States.{State, IsStateOf}
 use Rattle.runner.specs.Evaluated.{rows_at, rows_from}
-use Rattle.runner.specs.Rows.{rows_of}
+use Rattle.outcome_rows.specs.Rows.{rows_of}
 use Rattle.runner.specs.Trees.{IsTreeState}
 use Rattle.runner.proofs.RowLemmas.{rows_ok, rows_late, stops_there}
 use Rattle.runner.proofs.rows.end_rows.Goals as goal

@@ -6,7 +6,7 @@ use Rattle.word_runs.specs.declared.live.LiveWord.{LiveWord}
 use Rattle.word_runs.specs.declared.fault.StepFault.TheVariants.{TooLarge}
 use Rattle.recouple.specs.States.{State, IsStateOf}
 use Rattle.runner.specs.Evaluated.{rows_at}
-use Rattle.runner.specs.Rows.{rows_of}
+use Rattle.outcome_rows.specs.Rows.{rows_of}
 use Rattle.word_runs.proofs.EachLemmas.{all_found, err_same}
 use Rattle.runner.proofs.RowLemmas.{rows_next, rows_stop}
 use Rattle.runner.proofs.rows.rows_of_words.Goals as goal

@@ -3,7 +3,7 @@ use Rattle.ring_laws.specs.Stated.{steps_over}
 use Rattle.symbol_table.specs.Category.{draft_symbols}
 use Rattle.word_runs.specs.Lives.{lives_of}
 use Rattle.runner.specs.Evaluated.{row_step, rows_at}
-use Rattle.runner.specs.Rows.{rows_of}
+use Rattle.outcome_rows.specs.Rows.{rows_of}
 use Rattle.runner.proofs.rows.rows_of_words.Given as goal
 
 -- what is left gives all rows

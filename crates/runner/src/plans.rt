@@ -1,0 +1,71 @@
+//! Runs of plans, in the order of the text.
+
+ghost use Rattle.std.specs.Prelude.{◌≡◌, IfOk};
+ghost use Rattle.std.specs.List.{AllByRecursion};
+ghost use Rattle.fusion_rules.specs.Fusion.{fuses};
+ghost use Rattle.symbol_table.specs.Category.{symbols};
+ghost use Rattle.tree_shapes.specs.Labelled.{size};
+ghost use Rattle.tree_shapes.specs.Views.{labelled};
+ghost use Rattle.program_text.specs.Program.{program_of};
+ghost use Rattle.program_text.specs.WellFormed.{IsProgram, commands_in};
+ghost use Rattle.word_runs.specs.Runs.{Runs};
+ghost use Rattle.word_runs.specs.Lives.{lives_of};
+ghost use Rattle.comb_laws.specs.Plans.{outcomes_of};
+ghost use Rattle.outcome_rows.specs.Rows.{outcomes_in};
+ghost use Rattle.runner.specs.Evaluated.{ends_of, evaluation_of};
+ghost use Rattle.runner.specs.Trees.{IsTreeState};
+
+use crate::ends::run_states;
+use crate::rows::run_rows;
+use outcome_rows::{Rows, text_commands};
+use program_text::Plan;
+use recouple::TreeState;
+use ring_laws::StarRing;
+use std::alloc::Global;
+use symbol_table::Category;
+use word_runs::{LiveWord, RunFault};
+
+/// The total and the rows of a plan, run on trees from its start: the weight of the start, and each word of outcomes
+/// whose weight isn't zero, with its weight, in the order of lists of labels.
+///
+/// The plan is well formed for the category's rules. Sites take their turns in the order of the text. `Overflow` comes
+/// exactly at the turn of the first item that doesn't fit: turn 0 evaluates the total, each command is a turn, and the turn
+/// after the last one evaluates the weights of the words. `Branches` and `Wide` come exactly where the words or the
+/// amplitudes pass the limits of `word_runs`.
+pub fn run<R: StarRing>(
+    alloc: Global,
+    category: &Category<R>,
+    plan: &Plan,
+) -> Result<Rows<R>, RunFault>
+    requires program { IsProgram (fuses category.now.rules) category.now.rules.count (program_of plan.now) }
+    // The total and the rows are those of the comb operators in the order of the text, whatever trees the run went through.
+    ensures rows { let c = symbols R.StarRing category.now in
+        IfOk result (λ rows. outcomes_in rows ≡ outcomes_of c (labelled plan.now.start) (commands_in (program_of plan.now).sites)) }
+    // It stops exactly where the stated evaluation does.
+    ensures stated { let c = symbols R.StarRing category.now in
+        Runs outcomes_in result (evaluation_of c (labelled plan.now.start) (commands_in (program_of plan.now).sites)) }
+{
+    let commands = text_commands(alloc, plan)?;
+    run_rows(alloc, category, &plan.start, &commands)
+}
+
+/// The live words at the end of a plan, run on trees from its start, in the order of lists of labels: one label for each
+/// measurement in text order, and the state of the word. No weight is evaluated.
+///
+/// The plan is well formed for the category's rules. Sites take their turns in the order of the text. The run stops exactly
+/// where the stated evaluation does, as [`run`] but for the weights at turn 0 and after the last turn.
+pub fn trees<R: StarRing>(
+    alloc: Global,
+    category: &Category<R>,
+    plan: &Plan,
+) -> Result<Vec<LiveWord<TreeState<R>>>, RunFault>
+    requires program { IsProgram (fuses category.now.rules) category.now.rules.count (program_of plan.now) }
+    // Every state is one of the category, over as many strands as the start.
+    ensures states { IfOk result (λ ends. AllByRecursion (λ l. IsTreeState (symbols R.StarRing category.now) (size (labelled plan.now.start)) l.state) ends.items) }
+    // It stops exactly where the stated evaluation does.
+    ensures stated { let c = symbols R.StarRing category.now in
+        Runs (λ ends. lives_of (λ s. s) ends.items) result (ends_of c (labelled plan.now.start) (commands_in (program_of plan.now).sites)) }
+{
+    let commands = text_commands(alloc, plan)?;
+    run_states(alloc, category, &plan.start, &commands)
+}
