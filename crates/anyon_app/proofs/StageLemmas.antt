@@ -1,4 +1,5 @@
 -- Stages make a command.
+use Rattle.std.specs.Prelude.{IfOk}
 use Rattle.std.proofs.Common.{◌≡◌, inl, inr, ℕ, ◌≤◌, List, length, true, false, Option, Some, Result, Ok, Err, Vec, Global, refl, sym, ap, subst, ◌∙◌, arith, nat_lt, if◌then◌else◌}
 use Rattle.std.proofs.lemmas.Bool.Decides.{nat_tests}
 use Rattle.std.specs.Option.{option_and_then}
@@ -113,3 +114,19 @@ module _ {S : Type 0} (files : S → Option Files) (faults : S → List ℕ → 
 pub retold : {S A : Type 0} (files : S → Option Files) (faults : S → List ℕ → ℕ) (old new : S) (work : A → Work) (x y : A) (result : Result (Vec ℕ Global) Stop)
     → x ≡ y → Worked files faults old new (work x) result → Worked files faults old new (work y) result
 retold files faults old new work x y result e worked = subst (λ n. Worked files faults old new (work n) result) e worked
+
+-- a value that is read and then judged
+pub judge_passes : {S V W T : Type 0} (files : S → Option Files) (faults : S → List ℕ → ℕ) (old new : S) (view : W → T) (stage : (T → Work) → Work) (value : W)
+    (verdict : T → Result (Unit {0}) Reply) (seen : V → T) (result : Result V Stop)
+    → Passes files faults old new view stage (Ok value) → Gives (λ _. tt) result (verdict (view value)) → IfOk result (λ v. seen v ≡ view value)
+    → Passes files faults old new seen (λ next. stage (λ t. judged (verdict t) (λ _. next t))) result
+judge_passes files faults old new view stage value verdict seen (Ok v) reads gives same = record {
+  stopped = tt;
+  passed = λ next newer final worked.
+      reads.passed (λ t. judged (verdict t) (λ _. next t)) newer final
+      (goes_on files faults new newer tt (verdict (view value)) gives (λ _. next (view value)) final (retold files faults new newer next (seen v) (view value) final same worked));
+}
+judge_passes files faults old new view stage value verdict seen (Err stop) reads gives same = record {
+  stopped = λ next. reads.passed (λ t. judged (verdict t) (λ _. next t)) new (Err stop) (stops_here files faults new stop (verdict (view value)) gives (λ _. next (view value)));
+  passed = tt;
+}

@@ -1,11 +1,13 @@
 -- The causes of refused lines, as they are written.
-use Rattle.std.specs.Prelude.{ℕ, List, codes}
+use Rattle.std.specs.Prelude.{ℕ, List, [], ◌∷◌, codes, decimal}
 use Rattle.line_text.specs.declared.fault.LineCause.{LineCause}
 use Rattle.line_text.specs.declared.fault.LineCause.TheVariants.{TooLong, NotAscii}
 use Rattle.cyclo_text.specs.declared.fault.NumberWord.{NumberWord}
 use Rattle.cyclo_text.specs.declared.fault.NumberWord.TheVariants.{Spelling, TooManyParts, TooBig, ZeroDenominator}
 use Rattle.category_text.specs.declared.fault.CategoryCause.{CategoryCause}
 use Rattle.category_text.specs.declared.fault.CategoryCause.TheVariants.{Line, Header, Root, Labels, Limit, Repeated, Misplaced, Word, Short, Long, UnknownLabel, UnitFuse, NotAdmissible, Number}
+use Rattle.program_text.specs.declared.fault.ProgramCause.{ProgramCause}
+use Rattle.program_text.specs.declared.fault.ProgramCause.TheVariants as program
 
 abbrev pub line_cause : LineCause → List ℕ
 line_cause TooLong = codes "line too long"
@@ -32,3 +34,19 @@ category_cause UnknownLabel = codes "unknown label"
 category_cause UnitFuse = codes "unit fuse"
 category_cause NotAdmissible = codes "not admissible"
 category_cause (Number cause) = number_cause cause
+
+-- a cause of a program text: one word, and the gap where a node isn't admissible
+abbrev pub program_cause : ProgramCause → List (List ℕ)
+program_cause (program.Line cause) = line_cause cause ∷ []
+program_cause program.Header = codes "header" ∷ []
+program_cause program.Start = codes "start" ∷ []
+program_cause program.UnknownLabel = codes "unknown label" ∷ []
+program_cause program.Strands = codes "strands" ∷ []
+program_cause (program.Inadmissible gap) = codes "inadmissible" ∷ decimal gap ∷ []
+program_cause program.Site = codes "site" ∷ []
+program_cause program.Command = codes "command" ∷ []
+program_cause program.Gap = codes "gap" ∷ []
+program_cause program.Name = codes "name" ∷ []
+program_cause program.Unnamed = codes "unnamed" ∷ []
+program_cause program.Unlike = codes "unlike" ∷ []
+program_cause program.Limit = codes "limit" ∷ []

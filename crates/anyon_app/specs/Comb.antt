@@ -8,7 +8,7 @@ use Rattle.word_runs.specs.declared.fault.RunStop.{RunStop}
 use Rattle.comb_run.specs.Comb.{commands_of}
 use Rattle.comb_laws.specs.Plans.{Outcomes, outcomes_of}
 use Rattle.comb_run.specs.Evaluated.{evaluation_of}
-use Rattle.anyon_app.specs.declared.texts.Kind.TheVariants.{Category, Program as ProgramText}
+use Rattle.anyon_app.specs.declared.texts.Kind.TheVariants.{Category, CombProgram}
 use Rattle.anyon_app.specs.Replies.{Reply, done}
 use Rattle.anyon_app.specs.Refusals.{too_long, not_built, stop_line}
 use Rattle.anyon_app.specs.Report.{report_of}
@@ -23,7 +23,7 @@ count_line count = if count == 2 then None else Some (not_built Category)
 -- the program of a text that is of the form
 abbrev pub plan_or : Option Program → Result Program Reply
 plan_or (Some plan) = Ok plan
-plan_or None = Err (not_built ProgramText)
+plan_or None = Err (not_built CombProgram)
 
 abbrev pub plan_of : NamedSymbols → List ℕ → Result Program Reply
 plan_of named text = plan_or (comb_program_of named.names named.given.count named.given.fuse text)
@@ -41,7 +41,7 @@ rows_of named plan =
 
 -- the program of the second text, and its rows in a category
 abbrev pub program_work : List ℕ → NamedSymbols → Work
-program_work program named = read_work (too_long ProgramText) (plan_of named) program (λ plan. judged (rows_of named plan) (λ report. Says (done report)))
+program_work program named = read_work (too_long CombProgram) (plan_of named) program (λ plan. judged (rows_of named plan) (λ report. Says (done report)))
 
 -- The category of the first text; how many labels it has; what decides about it; the program and its rows.
 unfoldable pub comb_work : List ℕ → List ℕ → Work

@@ -7,7 +7,10 @@ pub mod Refusals
 pub mod Report
 pub mod Categories
 pub mod Verdicts
+pub mod Programs
 pub mod Comb
+pub mod Run
+pub mod Trees
 pub mod Check
 pub mod Format
 pub mod Headline

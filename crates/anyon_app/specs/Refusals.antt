@@ -1,6 +1,5 @@
 -- The lines of refusals and limits. Labels are written by name, other numbers in decimal digits.
-use Rattle.std.specs.Prelude.{ℕ, List, [], ◌∷◌, map, codes, decimal}
-use Rattle.fusion_rules.specs.Names.{name_of}
+use Rattle.std.specs.Prelude.{ℕ, List, [], ◌∷◌, codes, decimal}
 use Rattle.fusion_rules.specs.declared.rules.RulesFault.{RulesFault}
 use Rattle.fusion_rules.specs.declared.rules.RulesFault.TheVariants.{NotCommutative, NotAssociative, NoSingleDual}
 use Rattle.symbol_table.specs.Laws.{form_of}
@@ -8,22 +7,21 @@ use Rattle.symbol_table.specs.declared.law.Kind.{Kind}
 use Rattle.symbol_table.specs.declared.law.Kind.TheVariants.{Fails, Overflow}
 use Rattle.symbol_table.specs.declared.law.Event.{Event}
 use Rattle.anyon_app.specs.declared.texts.Kind as text
-use Rattle.anyon_app.specs.declared.texts.Kind.TheVariants.{Category, Program}
+use Rattle.anyon_app.specs.declared.texts.Kind.TheVariants.{Category, Program, CombProgram}
 use Rattle.category_text.specs.declared.fault.CategoryCause.{CategoryCause}
 use Rattle.word_runs.specs.declared.fault.RunStop.{RunStop}
+use Rattle.outcome_report.specs.Labels.{label_names}
 use Rattle.word_runs.specs.declared.fault.RunStop.TheVariants.{Overflow as TurnOverflow, Branches, Wide}
 use Rattle.anyon_app.specs.Replies.{Reply}
 use Rattle.anyon_app.specs.Lines.{refusal_of, limit_of}
-use Rattle.anyon_app.specs.Causes.{category_cause}
-
--- the names of labels; a number that is no label has none
-abbrev pub label_names : List (List ℕ) → List ℕ → List (List ℕ)
-label_names names labels = map (name_of names) labels
+use Rattle.program_text.specs.declared.fault.ProgramCause.{ProgramCause}
+use Rattle.anyon_app.specs.Causes.{category_cause, program_cause}
 
 -- the word for a text of a kind
 abbrev pub kind_word : text.Kind → List ℕ
 kind_word Category = codes "category"
 kind_word Program = codes "program"
+kind_word CombProgram = codes "program"
 
 -- a line of a text that its grammar refuses, with the words of its cause
 abbrev pub refused_line : text.Kind → ℕ → List ℕ → Reply
@@ -32,6 +30,10 @@ refused_line kind line cause = refusal_of (kind_word kind ∷ codes "line" ∷ d
 -- a line of a category text, with its cause
 abbrev pub category_line : ℕ → CategoryCause → Reply
 category_line line cause = refused_line Category line (category_cause cause)
+
+-- a line of a program text, with its cause
+abbrev pub program_line : ℕ → ProgramCause → Reply
+program_line line cause = refusal_of (kind_word Program ∷ codes "line" ∷ decimal line ∷ program_cause cause)
 
 -- a text that isn't treated
 abbrev pub not_built : text.Kind → Reply
@@ -62,7 +64,8 @@ too_long_line kind = refusal_of (kind_word kind ∷ codes "too long" ∷ [])
 -- the same, where such a program isn't treated
 abbrev pub too_long : text.Kind → Reply
 too_long Category = too_long_line Category
-too_long Program = not_built Program
+too_long Program = too_long_line Program
+too_long CombProgram = not_built CombProgram
 
 -- where the stated evaluation of a run stops: an item of a turn that doesn't fit, more live words or more amplitudes over
 -- all of them than the limits allow

@@ -4,7 +4,7 @@ use Rattle.line_text.specs.Spelling.{spelled}
 use Rattle.cyclo_core.specs.Ratio.{Ratio}
 use Rattle.comb_laws.specs.Plans.{Outcomes}
 use Rattle.cyclo_text.specs.NumberWords.{spelled_number}
-use Rattle.anyon_app.specs.Refusals.{label_names}
+use Rattle.outcome_report.specs.Labels.{label_names}
 
 -- the words of a row's line: its outcomes, and its weight
 abbrev pub row_words : List (List ℕ) → List ℕ × Ratio → List (List ℕ)

@@ -58,10 +58,10 @@ fn load_program<S: Shelf>(
     name: &str,
 ) -> Result<Plan, Stop>
     requires { length admitted.now.names ≡ admitted.now.category.rules.count }
-    ensures passes { Passes S.files S.faults shelf.old shelf.new program_of (read_work (too_long Kind.Program) (plan_of (named_draft admitted.now.names admitted.now.category)) name.now) result }
+    ensures passes { Passes S.files S.faults shelf.old shelf.new program_of (read_work (too_long Kind.CombProgram) (plan_of (named_draft admitted.now.names admitted.now.category)) name.now) result }
     ensures form { IfOk result (λ plan. is_comb_program (fuses admitted.now.category.rules) admitted.now.category.rules.count (program_of plan) ≡ true) }
 {
-    let text = text(alloc, shelf, Kind::Program, name)?;
+    let text = text(alloc, shelf, Kind::CombProgram, name)?;
     program(alloc, admitted, &text)
 }
 
@@ -74,7 +74,7 @@ fn program(alloc: Global, admitted: &Admitted, text: &[u8]) -> Result<Plan, Stop
 {
     match read_comb_program(alloc, &admitted.names, admitted.category.rules(), text) {
         Ok(Some(plan)) => Ok(plan),
-        Ok(None) => Err(not_built(alloc, Kind::Program)),
+        Ok(None) => Err(not_built(alloc, Kind::CombProgram)),
         Err(_) => Err(Stop::Memory),
     }
 }

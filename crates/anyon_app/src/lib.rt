@@ -21,12 +21,15 @@ mod format;
 mod judge;
 mod laws;
 mod lines;
+mod programs;
 mod refusals;
 mod report;
+mod run;
 mod status;
 mod stop;
 mod texts;
 mod top;
+mod trees;
 
 pub use laws::{category_replies, over_sure_shelf};
 pub use status::Status;

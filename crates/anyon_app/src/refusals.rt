@@ -1,16 +1,17 @@
 // The lines of refusals and limits.
 ghost use Rattle.std.specs.Prelude.{◌≡◌, ◌∷◌, IfOk};
 ghost use Rattle.anyon_app.specs.Stages.{StopsWith};
-ghost use Rattle.anyon_app.specs.Refusals.{category_line, event_line, event_words, not_built, refused_line, rules_line, stop_line, too_long};
+ghost use Rattle.anyon_app.specs.Refusals.{category_line, event_line, event_words, not_built, refused_line, program_line, rules_line, stop_line, too_long};
 ghost use Rattle.anyon_app.specs.Lines.{line_of};
 
-use crate::causes::category_words;
+use crate::causes::{category_words, line_words};
 use crate::report::write_labels;
 use crate::stop::{Stop, limit, refusal};
 use crate::texts::Kind;
 use category_text::CategoryCause;
 use fusion_rules::{Names, RulesFault};
 use itoa::Buffer;
+use program_text::ProgramCause;
 use std::alloc::{AllocError, Global};
 use symbol_table::{Event, Kind as EventKind};
 use word_runs::RunStop;
@@ -20,13 +21,13 @@ pub fn too_long(alloc: Global, kind: Kind) -> Stop
     ensures { StopsWith (too_long kind) result }
 {
     match kind {
-        Kind::Category => refusal(alloc, &[kind.word(), "too long"]),
-        Kind::Program => not_built(alloc, kind),
+        Kind::Category | Kind::Program => refusal(alloc, &[kind.word(), "too long"]),
+        Kind::CombProgram => not_built(alloc, kind),
     }
 }
 
 /// The stop at a line of a text, with the words of its cause.
-fn refused_line(alloc: Global, kind: Kind, line: u32, cause: &'static str) -> Stop
+fn refused_line(alloc: Global, kind: Kind, line: u32, cause: &str) -> Stop
     ensures { StopsWith (refused_line kind line cause.now) result }
 {
     let mut buffer = Buffer::new();
@@ -39,6 +40,42 @@ pub fn category_line(alloc: Global, line: u32, cause: CategoryCause) -> Stop
     ensures { StopsWith (category_line line cause) result }
 {
     refused_line(alloc, Kind::Category, line, category_words(cause))
+}
+
+/// The stop at a line of a program text.
+pub fn program_line(alloc: Global, line: u32, cause: ProgramCause) -> Stop
+    ensures { StopsWith (program_line line cause) result }
+{
+    let refused = |words: &str| refused_line(alloc, Kind::Program, line, words);
+    match cause {
+        ProgramCause::Line(cause) => refused(line_words(cause)),
+        ProgramCause::Header => refused("header"),
+        ProgramCause::Start => refused("start"),
+        ProgramCause::UnknownLabel => refused("unknown label"),
+        ProgramCause::Strands => refused("strands"),
+        ProgramCause::Inadmissible(gap) => inadmissible_line(alloc, line, gap),
+        ProgramCause::Site => refused("site"),
+        ProgramCause::Command => refused("command"),
+        ProgramCause::Gap => refused("gap"),
+        ProgramCause::Name => refused("name"),
+        ProgramCause::Unnamed => refused("unnamed"),
+        ProgramCause::Unlike => refused("unlike"),
+        ProgramCause::Limit => refused("limit"),
+    }
+}
+
+/// The stop at a start with a node that isn't admissible.
+fn inadmissible_line(alloc: Global, line: u32, gap: u8) -> Stop
+    ensures { StopsWith (program_line line (ProgramCause.Inadmissible gap)) result }
+{
+    let mut line_digits = Buffer::new();
+    let mut gap_digits = Buffer::new();
+    let line = line_digits.format(line);
+    let gap = gap_digits.format(gap);
+    refusal(
+        alloc,
+        &[Kind::Program.word(), "line", line, "inadmissible", gap],
+    )
 }
 
 /// The stop at a text that isn't treated.

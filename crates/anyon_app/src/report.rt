@@ -2,7 +2,7 @@
 ghost use Rattle.std.specs.Prelude.{◌≡◌, ◌++◌, IfOk, OnOk};
 ghost use Rattle.line_text.specs.Writing.{spaced_on};
 ghost use Rattle.anyon_app.specs.Lines.{line_of};
-ghost use Rattle.anyon_app.specs.Refusals.{label_names};
+ghost use Rattle.outcome_report.specs.Labels.{label_names};
 ghost use Rattle.anyon_app.specs.Report.{report_of, row_words};
 ghost use Rattle.comb_run.specs.Comb.{outcomes_in};
 

@@ -14,6 +14,8 @@ use std::alloc::Global;
 pub enum Kind {
     Category,
     Program,
+    /// A program that `comb` reads.
+    CombProgram,
 }
 
 impl Kind {
@@ -23,7 +25,7 @@ impl Kind {
     {
         match self {
             Kind::Category => "category",
-            Kind::Program => "program",
+            Kind::Program | Kind::CombProgram => "program",
         }
     }
 }

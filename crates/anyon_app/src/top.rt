@@ -9,6 +9,8 @@ ghost use Rattle.anyon_app.specs.Headline.{command_in, command_work, work_of, Is
 use crate::check::check;
 use crate::comb::comb;
 use crate::format::format;
+use crate::run::run;
+use crate::trees::trees;
 use crate::{Status, Stop};
 use io_ports::{Shelf, Sink, put_all};
 use std::alloc::Global;
@@ -78,6 +80,8 @@ enum Command<'a> {
     Check(&'a str),
     Format(&'a str),
     Comb(&'a str, &'a str),
+    Run(&'a str, &'a str),
+    Trees(&'a str, &'a str),
 }
 
 #[tactic(auto, unfolding(crate::specs::Headline::command_in, crate::specs::Headline::command_work))]
@@ -95,6 +99,12 @@ fn command_of(words: &[String]) -> Option<Command<'_>>
         [command, category, program] if command.as_str() == "comb" => {
             Some(Command::Comb(category.as_str(), program.as_str()))
         }
+        [command, category, program] if command.as_str() == "run" => {
+            Some(Command::Run(category.as_str(), program.as_str()))
+        }
+        [command, category, program] if command.as_str() == "trees" => {
+            Some(Command::Trees(category.as_str(), program.as_str()))
+        }
         _ => None,
     }
 }
@@ -107,6 +117,8 @@ fn work<S: Shelf>(alloc: Global, command: Command<'_>, shelf: &mut S) -> Result<
         Command::Check(category) => check(alloc, shelf, category),
         Command::Format(category) => format(alloc, shelf, category),
         Command::Comb(category, program) => comb(alloc, shelf, category, program),
+        Command::Run(category, program) => run(alloc, shelf, category, program),
+        Command::Trees(category, program) => trees(alloc, shelf, category, program),
     }
 }
 

@@ -1,6 +1,6 @@
 use Rattle.std.proofs.Common.{◌≡◌, ◌++◌, drop}
 use Rattle.line_text.specs.Writing.{spaced_on}
-use Rattle.anyon_app.specs.Refusals.{label_names}
+use Rattle.outcome_report.specs.Labels.{label_names}
 use Rattle.anyon_app.proofs.report.write_labels.Given as goal
 
 abbrev pub invariant-loop-label : goal.invariant-loop-label

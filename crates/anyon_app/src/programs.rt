@@ -1,0 +1,55 @@
+// The texts of a command that runs a program: a category that is admitted, and the program.
+ghost use Rattle.std.specs.Prelude.{◌≡◌, ◌<◌, ◌-◌, ◌^◌, IfOk, length};
+ghost use Rattle.fusion_rules.specs.Fusion.{fuses};
+ghost use Rattle.program_text.specs.Program.{program_of};
+ghost use Rattle.program_text.specs.WellFormed.{IsProgram};
+ghost use Rattle.category_text.specs.Named.{named_draft};
+ghost use Rattle.anyon_app.specs.Stages.{Gives, Passes};
+ghost use Rattle.anyon_app.specs.Programs.{admitted_work, planned_work, program_of_text};
+
+use crate::categories::load_category;
+use crate::judge::{Admitted, judge};
+use crate::refusals::program_line;
+use crate::stop::Stop;
+use crate::texts::{Kind, text};
+use io_ports::Shelf;
+use program_text::{Plan, ProgramFault, read_program};
+use std::alloc::Global;
+
+/// The category of a text, judged by its rules and its laws.
+pub fn load_admitted<S: Shelf>(alloc: Global, shelf: &mut S, name: &str) -> Result<Admitted, Stop>
+    ensures passes { Passes S.files S.faults shelf.old shelf.new (λ admitted. named_draft admitted.names admitted.category) (admitted_work name.now) result }
+    ensures counts { IfOk result (λ admitted. length admitted.names ≡ admitted.category.rules.count) }
+{
+    let named = load_category(alloc, shelf, name)?;
+    judge(alloc, named)
+}
+
+/// The program of a text over a category.
+pub fn load_program<S: Shelf>(
+    alloc: Global,
+    shelf: &mut S,
+    admitted: &Admitted,
+    name: &str,
+) -> Result<Plan, Stop>
+    requires { length admitted.now.names ≡ admitted.now.category.rules.count }
+    ensures passes { Passes S.files S.faults shelf.old shelf.new program_of (planned_work name.now (named_draft admitted.now.names admitted.now.category)) result }
+    ensures well_formed { IfOk result (λ plan. IsProgram (fuses admitted.now.category.rules) admitted.now.category.rules.count (program_of plan)) }
+{
+    let text = text(alloc, shelf, Kind::Program, name)?;
+    program(alloc, admitted, &text)
+}
+
+// The program of these bytes.
+fn program(alloc: Global, admitted: &Admitted, text: &[u8]) -> Result<Plan, Stop>
+    requires short { length text.now < 2 ^ 32 - 1 }
+    requires counts { length admitted.now.names ≡ admitted.now.category.rules.count }
+    ensures gives { Gives program_of result (program_of_text (named_draft admitted.now.names admitted.now.category) text.now) }
+    ensures well_formed { IfOk result (λ plan. IsProgram (fuses admitted.now.category.rules) admitted.now.category.rules.count (program_of plan)) }
+{
+    match read_program(alloc, &admitted.names, admitted.category.rules(), text) {
+        Ok(plan) => Ok(plan),
+        Err(ProgramFault::At { line, cause }) => Err(program_line(alloc, line, cause)),
+        Err(ProgramFault::Memory) => Err(Stop::Memory),
+    }
+}

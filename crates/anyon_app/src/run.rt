@@ -1,0 +1,50 @@
+// The command `run CAT PROG`.
+ghost use Rattle.std.specs.Prelude.{◌≡◌};
+ghost use Rattle.fusion_rules.specs.Fusion.{fuses};
+ghost use Rattle.program_text.specs.Program.{program_of};
+ghost use Rattle.program_text.specs.WellFormed.{IsProgram};
+ghost use Rattle.category_text.specs.Named.{named_draft};
+ghost use Rattle.anyon_app.specs.Stages.{Gives, Worked};
+ghost use Rattle.anyon_app.specs.Run.{rows_of, run_work};
+
+use crate::judge::Admitted;
+use crate::programs::{load_admitted, load_program};
+use crate::refusals::stop_line;
+use crate::stop::Stop;
+use io_ports::Shelf;
+use outcome_report::report;
+use program_text::Plan;
+use std::alloc::Global;
+use word_runs::RunFault;
+
+/// Reads a category and judges it, reads a program, runs it on trees in the order of the text and reports
+/// its rows. The category is judged before the program is read.
+pub fn run<S: Shelf>(
+    alloc: Global,
+    shelf: &mut S,
+    category: &str,
+    program: &str,
+) -> Result<Vec<u8>, Stop>
+    ensures { Worked S.files S.faults shelf.old shelf.new (run_work category.now program.now) result }
+{
+    let admitted = load_admitted(alloc, shelf, category)?;
+    let plan = load_program(alloc, shelf, &admitted, program)?;
+    rows(alloc, &admitted, &plan)
+}
+
+// The report of the rows.
+fn rows(alloc: Global, admitted: &Admitted, plan: &Plan) -> Result<Vec<u8>, Stop>
+    requires program { IsProgram (fuses admitted.now.category.rules) admitted.now.category.rules.count (program_of plan.now) }
+    ensures { Gives (λ report. report.items) result (rows_of (named_draft admitted.now.names admitted.now.category) (program_of plan.now)) }
+{
+    let rows = match runner::run(alloc, &admitted.category, plan) {
+        Ok(rows) => rows,
+        Err(RunFault::Stop(stop)) => return Err(stop_line(alloc, stop)),
+        Err(RunFault::Memory) => return Err(Stop::Memory),
+    };
+    let mut out = Vec::new(alloc);
+    match report(alloc, &admitted.names, &rows, &mut out) {
+        Ok(()) => Ok(out),
+        Err(_) => Err(Stop::Memory),
+    }
+}
