@@ -1,13 +1,17 @@
 -- The total and the rows of commands from a state, evaluated, over any engine. Here weigh is the weight of a state, where it
 -- fits, and zero tells whether a weight is zero.
 use Rattle.std.specs.Prelude.{ℕ, ◌+◌, Bool, List, [], ◌∷◌, ◌++◌, Option, Some, length, if◌then◌else◌, Result, Ok}
-use Rattle.ring_laws.specs.Stated.{◌>>=◌, steps_over}
+use Rattle.ring_laws.specs.Stated.{◌>>=◌, Gives, steps_over}
 use Rattle.program_text.specs.Letters.{letters, measurements}
 use Rattle.program_text.specs.declared.plan.Command.{Command}
 use Rattle.word_runs.specs.Told.{Told}
 use Rattle.word_runs.specs.Runs.{Live, ◌>>>◌, fitting, run_of, start_word}
 use Rattle.word_runs.specs.declared.fault.RunStop.{RunStop}
 use Rattle.comb_laws.specs.Plans.{Outcomes}
+
+-- what calls answer at states are the stated weights
+abbrev pub AreWeights : {S M W F : Type 0} → (S → Result W F → Type 0) → (S → M) → (M → Option W) → Type 0
+AreWeights {S} {M} {W} {F} post seen stated = (state : S) (answer : Result W F) → post state answer → Gives answer (stated (seen state))
 
 -- one more row, if its weight isn't zero
 abbrev pub row_added : {W : Type 0} → (W → Bool) → List ℕ → W → List (List ℕ × W) → List (List ℕ × W)

@@ -12,4 +12,4 @@ pub mod laws;
 mod rows;
 
 pub use commands::text_commands;
-pub use rows::{Row, Rows};
+pub use rows::{Row, Rows, rows_of_words, text_outcomes};
