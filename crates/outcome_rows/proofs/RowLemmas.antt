@@ -1,11 +1,11 @@
 -- The rows of live words, and the end of a run.
 use Rattle.std.proofs.Common.{◌≡◌, ℕ, ◌+◌, ◌<◌, Bool, List, [], ◌∷◌, ◌++◌, length, drop, get_or, Option, Some, None, refl, ap, sym, ◌∙◌}
-use Rattle.std.specs.Prelude.{Result, Ok, Err}
+use Rattle.std.specs.Prelude.{Result, Ok, Err, IfOk}
 use Rattle.std.proofs.lemmas.List.{map-append}
 use Rattle.ring_laws.specs.Stated.{◌>>=◌, steps_over}
 use Rattle.program_text.specs.declared.plan.Command.{Command}
 use Rattle.word_runs.specs.Lives.{live_of, lives_of}
-use Rattle.word_runs.specs.Runs.{Live, ◌>>>◌, fitting, Stops}
+use Rattle.word_runs.specs.Runs.{Live, ◌>>>◌, fitting, Runs, Stops}
 use Rattle.word_runs.specs.Told.{Told}
 use Rattle.word_runs.specs.declared.fault.StepFault.{StepFault}
 use Rattle.word_runs.specs.declared.fault.StepFault.TheVariants.{TooLarge}
@@ -67,3 +67,8 @@ stops_there StepFault.Memory told turn stated large room is = rw (room refl) tt
 pub stops_through : {A B : Type 0} (fault : RunFault) (r : Result A RunStop) (f : A → Result B RunStop) → Stops fault r → Stops fault (r >>> f)
 stops_through (Stop stop) r f h = ap (λ x. x >>> f) h
 stops_through Memory r f h = tt
+
+-- what holds of the value in which an evaluation ends holds of an answer
+pub if_ended : {V A : Type 0} (P : A → Type 0) (view : V → A) (r : Result V RunFault) (stated : Result A RunStop) → Runs view r stated → ((x : A) → stated ≡ Ok x → P x) → IfOk r (λ v. P (view v))
+if_ended P view (Ok v) stated is holds = holds (view v) is
+if_ended P view (Err fault) stated is holds = tt
