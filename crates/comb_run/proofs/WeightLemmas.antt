@@ -9,7 +9,6 @@ use Rattle.std.specs.BTreeMap.{is_at}
 use Rattle.std.specs.Ordering.{nat_cmp}
 use Rattle.std.specs.declared.cmp.Ordering.TheVariants.{Less}
 use Rattle.std.specs.Cmp.Lexicographic.{slice_cmp}
-use Rattle.std.proofs.lemmas.Slice.Eq.{bytes_eq-Decides}
 use Rattle.std.proofs.lemmas.List.Elements.{recursion_from_All}
 use Rattle.std.proofs.lemmas.List.{length-map}
 use Rattle.arrayvec.specs.ArrayVec.{ArrayVec}
@@ -19,9 +18,7 @@ use Rattle.symbol_table.specs.Symbols.{Symbols}
 use Rattle.comb_laws.specs.Paths.{Path, Vector, paths, is_path}
 use Rattle.comb_run.specs.Evaluated.{path_weight_at, weight_term_at, weight_step, weight_at, amplitudes}
 use Rattle.comb_run.specs.Entries.{path_of, paths_of, entry_at, vector_of, AreEntries, AreOrdered}
-use Rattle.amp_store.specs.Gathered.{among}
 use Rattle.comb_run.proofs.EntryLemmas.{lookup_is}
-use Rattle.comb_laws.proofs.PathFacts.{same_path}
 use Rattle.comb_run.proofs.PathLemmas.{among_paths}
 use Rattle.amp_store.specs.Amplitudes.{key_cmp}
 use Rattle.amp_store.proofs.AmongLemmas.{and_false_right, any_turned, filter_any}

@@ -1,16 +1,13 @@
 -- The stated evaluation on combs: which products, sums and conjugates arise, and the first stop.
-use Rattle.std.specs.Prelude.{ℕ, ◌+◌, ◌-◌, Bool, ◌&&◌, not, nat_lt, Option, Some, None, is_some, if◌then◌else◌, slice_index, slice_set, List, [], ◌∷◌, ◌++◌, map, length, Result, Ok}
+use Rattle.std.specs.Prelude.{ℕ, ◌+◌, ◌-◌, Bool, ◌&&◌, not, nat_lt, Option, Some, None, is_some, if◌then◌else◌, slice_index, slice_set, List, [], ◌∷◌, map, length, Result}
 use Rattle.std.specs.List.{filter, list_all}
 use Rattle.ring_laws.specs.Ring.{Ring}
 use Rattle.ring_laws.specs.Stated.{◌>>=◌, product_at, sum_at, conjugate_at, add_product_at, add_product3_at, steps, steps_over}
 use Rattle.symbol_table.specs.Symbols.{Symbols, f_admissible}
 use Rattle.tree_shapes.specs.Labelled.{Labelled, leaves, size}
-use Rattle.program_text.specs.Letters.{letters, measurements}
 use Rattle.program_text.specs.declared.plan.Sign.{Sign}
 use Rattle.program_text.specs.declared.plan.Command.{Command}
-use Rattle.program_text.specs.declared.letter.Letter.{Letter}
 use Rattle.word_runs.specs.Told.{Told}
-use Rattle.word_runs.specs.Runs.{Live, ◌>>>◌, fitting, run_of, start_word}
 use Rattle.word_runs.specs.declared.engine.Step.{Step}
 use Rattle.word_runs.specs.declared.engine.Step.TheVariants.{Raise, Exchange}
 use Rattle.word_runs.specs.declared.fault.RunStop.{RunStop}
@@ -18,6 +15,7 @@ use Rattle.comb_laws.specs.Paths.{Path, Vector, is_path, paths, labels}
 use Rattle.comb_laws.specs.Operators.{strand, swapped, exchange_by, braided, projected}
 use Rattle.comb_laws.specs.Amplitudes.{own_vector}
 use Rattle.comb_laws.specs.Plans.{Outcomes}
+use Rattle.outcome_rows.specs.Evaluated.{evaluation_of as evaluation_from}
 
 -- A kernel that is evaluated: none where an item of it doesn't fit.
 abbrev pub KernelAt : Type 0 → Type 0
@@ -147,27 +145,13 @@ comb_told c n = record {
   entries = λ s. amplitudes c s.0 s.1;
 }
 
--- one more live word: its row, if its weight isn't zero
-abbrev pub row_step : {E : Type 0} → Symbols E → Live (State E) → List (List ℕ × E) → Option (List (List ℕ × E))
-row_step c live rows = do
-  weight ← weight_at c live.state.0 live.state.1
-  Some (if c.held.is_zero weight then rows else rows ++ (live.word, weight) ∷ [])
-
--- the live words whose weight isn't zero, each with its weight, in their order; none where an item of one doesn't fit
-abbrev pub rows_at : {E : Type 0} → Symbols E → List (Live (State E)) → Option (List (List ℕ × E))
-rows_at c live = steps_over (row_step c) live []
-
--- The rows that follow from live words, where the first of the letters has this turn; the turn after the last one
--- evaluates the weights.
-abbrev pub rest_of : {E : Type 0} → Symbols E → ℕ → ℕ → List Letter → List (Live (State E)) → Result (List (List ℕ × E)) RunStop
-rest_of c n turn ls live =
-    run_of (comb_told c n) turn ls live >>> λ ends. fitting (turn + length ls) (rows_at c ends)
+-- the weight of a state
+abbrev pub state_weight_at : {E : Type 0} → Symbols E → State E → Option E
+state_weight_at c s = weight_at c s.0 s.1
 
 -- The total and the rows of a left-combed start and its commands, or the first stop: turn 0 evaluates the total, each
--- command is a turn from 1 on. The start has the amplitude one at the tree's own path.
+-- command is a turn from 1 on, and the turn after the last one evaluates the weights of the words. The start has the
+-- amplitude one at the tree's own path.
 abbrev pub evaluation_of : {E : Type 0} → Symbols E → Labelled → List Command → Result (Outcomes E) RunStop
 evaluation_of c tree commands =
-    let start = own_vector c.ring tree in
-    fitting 0 (weight_at c (leaves tree) start) >>> λ sum.
-    rest_of c (size tree) 1 (letters 0 commands) (start_word (measurements commands) (leaves tree, start)) >>> λ rows.
-    Ok (record { total = sum; rows = rows })
+    evaluation_from (comb_told c (size tree)) (state_weight_at c) c.held.is_zero (leaves tree, own_vector c.ring tree) commands

@@ -1,7 +1,9 @@
-pub mod Comb
+pub mod EngineFacts
 pub mod Entries
 pub mod Evaluated
 pub mod Kept
+pub mod Meaning
 pub mod Operations
 pub mod Shapes
 pub mod States
+pub mod WeightFacts

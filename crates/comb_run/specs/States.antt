@@ -1,12 +1,11 @@
--- States of the engine, and rows, as the stated evaluation sees them.
-use Rattle.std.specs.Prelude.{◌≡◌, ◌<◌, ◌≤◌, ℕ, List, length, map, All}
+-- States of the engine, as the stated evaluation sees them.
+use Rattle.std.specs.Prelude.{◌≡◌, ◌<◌, ◌≤◌, ℕ, length, All}
 use Rattle.ring_laws.specs.Ring.{Ring}
 use Rattle.symbol_table.specs.Symbols.{Symbols}
 use Rattle.tree_shapes.specs.declared.limits.TheConstants.{STRAND_LIMIT}
 use Rattle.comb_run.specs.Entries.{vector_of, AreEntries}
 use Rattle.comb_run.specs.Evaluated.{State}
 use Rattle.comb_run.specs.declared.state.CombState.{CombState}
-use Rattle.comb_run.specs.declared.rows.Row.{Row}
 
 -- the strands, and the vector of the entries over them
 abbrev pub state_of : {R E : Type 0} → Ring E → CombState R E → State E
@@ -19,7 +18,3 @@ pub record IsState {R E : Type 0} (c : Symbols E) (n : ℕ) (s : CombState R E) 
   pub few : n ≤ STRAND_LIMIT
   pub labels : All (λ s. s < c.count) s.strands.items
   pub entries : AreEntries c s.strands.items s.vector
-
--- rows as pairs of a word and its weight
-abbrev pub rows_of : {R E : Type 0} → List (Row R E) → List (List ℕ × E)
-rows_of rows = map (λ row. (row.word.items, row.weight)) rows

@@ -1,57 +1,30 @@
-//! The engine's call: a comb program in a category.
+//! The engine's call: a well formed program on a left-combed tree.
 
-ghost use Rattle.std.specs.Prelude.{◌≡◌, ◌<◌, ◌≤◌, length, IfOk, true};
+ghost use Rattle.std.specs.Prelude.{◌≡◌, IfOk, true};
 ghost use Rattle.fusion_rules.specs.Fusion.{fuses};
 ghost use Rattle.symbol_table.specs.Category.{symbols};
+ghost use Rattle.tree_shapes.specs.Labelled.{is_left_comb, size};
 ghost use Rattle.tree_shapes.specs.Views.{labelled};
-ghost use Rattle.tree_shapes.specs.Labelled.{leaves, size};
 ghost use Rattle.program_text.specs.Program.{program_of};
-ghost use Rattle.program_text.specs.Form.{is_comb_program, is_comb_start, is_measured_braid};
-ghost use Rattle.comb_run.specs.Comb.{commands_of, outcomes_in};
+ghost use Rattle.program_text.specs.WellFormed.{IsAdmittedStart, IsProgram, commands_in};
+ghost use Rattle.word_runs.specs.Runs.{Runs};
 ghost use Rattle.comb_laws.specs.Plans.{outcomes_of};
-ghost use Rattle.comb_run.specs.Evaluated.{evaluation_of, rest_of};
-ghost use Rattle.comb_run.specs.States.{state_of, rows_of, IsState};
-ghost use Rattle.program_text.specs.Letters.{letters, measurements};
-ghost use Rattle.program_text.specs.declared.form.TheConstants.{COMMAND_LIMIT};
-ghost use Rattle.word_runs.specs.Runs.{Runs, start_word};
+ghost use Rattle.outcome_rows.specs.Commands.{AreRunnable};
+ghost use Rattle.outcome_rows.specs.Rows.{outcomes_in};
+ghost use Rattle.comb_run.specs.Evaluated.{comb_told, evaluation_of};
 
 use crate::engine::CombEngine;
-use crate::key::Strands;
-use crate::rows::{Row, Rows, rows_of_words};
 use crate::start::start_state;
-use crate::state::CombState;
 use comb_laws::laws::left_comb_start;
+use outcome_rows::laws::outcomes;
+use outcome_rows::{Rows, text_commands, text_outcomes};
 use program_text::{Command, Plan};
 use ring_laws::StarRing;
 use std::alloc::Global;
 use symbol_table::Category;
+use symbol_table::laws::all_labels;
 use tree_shapes::Tree;
-use word_runs::{RunFault, RunStop, run_commands};
-
-/// The rows at the end of commands from a state.
-fn end_rows<R: StarRing>(
-    alloc: Global,
-    category: &Category<R>,
-    commands: &[Command],
-    state: CombState<R>,
-) -> Result<Vec<Row<R>>, RunFault>
-    requires form { is_measured_braid (length state.strands.items) commands.now ≡ true }
-    requires few { length commands.now ≤ COMMAND_LIMIT }
-    requires state { IsState (symbols R.StarRing category.now) (length state.strands.items) state }
-    ensures { let c = symbols R.StarRing category.now in
-        Runs (λ rows. rows_of rows.items) result
-        (rest_of c (length state.strands.items) 1 (letters 0 commands.now) (start_word (measurements commands.now) (state_of c.ring state))) }
-{
-    let engine = CombEngine {
-        category,
-        strands: state.strands.len() as u8,
-    };
-    let ends = run_commands(alloc, &engine, commands, state)?;
-    match rows_of_words(alloc, category, ends.as_slice()) {
-        Ok(rows) => Ok(rows),
-        Err(fault) => Err(fault.in_turn(commands.len() as u32 + 1)),
-    }
-}
+use word_runs::RunFault;
 
 /// Runs commands from a left-combed tree.
 fn comb_rows<R: StarRing>(
@@ -60,40 +33,50 @@ fn comb_rows<R: StarRing>(
     tree: &Tree,
     commands: &[Command],
 ) -> Result<Rows<R>, RunFault>
-    requires start { is_comb_start (fuses category.now.rules) category.now.rules.count (labelled tree.now) ≡ true }
-    requires form { is_measured_braid (size (labelled tree.now)) commands.now ≡ true }
-    requires few { length commands.now ≤ COMMAND_LIMIT }
-    ensures { let c = symbols R.StarRing category.now in
+    requires start { IsAdmittedStart (fuses category.now.rules) category.now.rules.count (labelled tree.now) }
+    requires left { is_left_comb (labelled tree.now) ≡ true }
+    requires runnable { AreRunnable (comb_told (symbols R.StarRing category.now) (size (labelled tree.now))) commands.now }
+    ensures rows { let c = symbols R.StarRing category.now in
+        IfOk result (λ rows. outcomes_in rows ≡ outcomes_of c (labelled tree.now) commands.now) }
+    ensures evaluated { let c = symbols R.StarRing category.now in
         Runs outcomes_in result (evaluation_of c (labelled tree.now) commands.now) }
 {
+    // What the symbols obey, and why the engine may start at one path.
+    all_labels(category);
+    left_comb_start(category);
     let start = start_state(alloc, category, tree)?;
-    let Ok(total) = start.vector.weight(category, start.strands.as_slice()) else {
-        return Err(RunFault::Stop(RunStop::Overflow { turn: 0 }));
+    let engine = CombEngine {
+        category,
+        strands: start.strands.len() as u8,
     };
-    let list = end_rows(alloc, category, commands, start)?;
-    Ok(Rows { total, list })
+    // What the evaluation means.
+    outcomes(&engine);
+    text_outcomes(alloc, &engine, category.ring(), commands, start, |state| {
+        state.weight(category)
+    })
 }
 
-/// The total and the rows of a comb program in a category.
+/// The total and the rows of a well formed program whose start is left-combed.
 ///
-/// The program has the one site with all strands, an admissible left-combed start of 2 to 16 strands, and at most
-/// 4,096 commands: braids, and one measurement behind them. `Overflow` comes exactly at the turn of the first item
-/// that doesn't fit: turn 0 evaluates the total, each command is a turn, and the turn after the last one evaluates
-/// the weights of the outcomes. `Branches` and `Wide` come exactly where the words or the amplitudes pass the limits
-/// of `word_runs`. The conventions are those of Kitaev 2006, Appendix E.
+/// The start has 2 to [`STRAND_LIMIT`](tree_shapes::STRAND_LIMIT) strands, and there are at most
+/// [`COMMAND_LIMIT`](program_text::COMMAND_LIMIT) commands, in the order of the text; a raise changes nothing.
+/// `Overflow` comes exactly at the turn of the first item that doesn't fit: turn 0 evaluates the total, each command is a
+/// turn, and the turn after the last one evaluates the weights of the words. `Branches` and `Wide` come exactly where the
+/// words or the amplitudes pass the limits of `word_runs`. The conventions are those of Kitaev 2006, Appendix E.
 pub fn comb_run<R: StarRing>(
     alloc: Global,
     category: &Category<R>,
     plan: &Plan,
 ) -> Result<Rows<R>, RunFault>
-    requires form { is_comb_program (fuses category.now.rules) category.now.rules.count (program_of plan.now) ≡ true }
+    requires program { IsProgram (fuses category.now.rules) category.now.rules.count (program_of plan.now) }
+    requires left { is_left_comb (labelled plan.now.start) ≡ true }
     // The total and the rows are those of the comb operators on the start's path amplitudes.
     ensures rows { let c = symbols R.StarRing category.now in
-        IfOk result (λ rows. outcomes_in rows ≡ outcomes_of c (labelled plan.now.start) (commands_of (program_of plan.now))) }
+        IfOk result (λ rows. outcomes_in rows ≡ outcomes_of c (labelled plan.now.start) (commands_in (program_of plan.now).sites)) }
     // It stops exactly where the stated evaluation does.
     ensures evaluated { let c = symbols R.StarRing category.now in
-        Runs outcomes_in result (evaluation_of c (labelled plan.now.start) (commands_of (program_of plan.now))) }
+        Runs outcomes_in result (evaluation_of c (labelled plan.now.start) (commands_in (program_of plan.now).sites)) }
 {
-    left_comb_start(category);
-    comb_rows(alloc, category, &plan.start, &plan.sites[0].commands)
+    let commands = text_commands(alloc, plan)?;
+    comb_rows(alloc, category, &plan.start, commands.as_slice())
 }

@@ -7,7 +7,9 @@
 //! - *stated evaluation*: which products, sums and conjugates arise, in their order (`specs/Evaluated.antt`).
 //! - *state*: the strands of a word, and its vector over them (`specs/States.antt`); runs of words over such states are
 //!   those of `word_runs`.
-//! - *comb run*: the total and the rows of a comb program in a category (`comb_run`).
+//! - *stands for*: a state stands for its strands and its vector over them (`specs/Meaning.antt`), so the rows of a run are
+//!   those of the plan.
+//! - *comb run*: the total and the rows of a well formed program on a left-combed tree, in a category (`comb_run`).
 #![tactic(auto)]
 
 mod act;
@@ -16,12 +18,11 @@ mod engine;
 mod kernel;
 mod kernels;
 mod key;
+mod meaning;
 mod parts;
-mod rows;
 mod start;
 mod state;
 mod vector;
 mod weigh;
 
 pub use comb::comb_run;
-pub use rows::{Row, Rows};

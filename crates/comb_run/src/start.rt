@@ -3,8 +3,8 @@
 ghost use Rattle.std.specs.Prelude.{◌≡◌, ◌≤◌, ◌+◌, ◌++◌, List, length, IfOk, true};
 ghost use Rattle.symbol_table.specs.Category.{symbols};
 ghost use Rattle.fusion_rules.specs.Fusion.{fuses};
-ghost use Rattle.tree_shapes.specs.Labelled.{leaves, size};
-ghost use Rattle.program_text.specs.Form.{is_comb_start};
+ghost use Rattle.tree_shapes.specs.Labelled.{is_left_comb, leaves, size};
+ghost use Rattle.program_text.specs.WellFormed.{IsAdmittedStart};
 ghost use Rattle.tree_shapes.specs.Views.{labelled};
 ghost use Rattle.comb_laws.specs.Paths.{is_path};
 ghost use Rattle.comb_laws.specs.Amplitudes.{own_path, own_vector};
@@ -73,7 +73,8 @@ pub(crate) fn start_state<R: StarRing>(
     category: &Category<R>,
     tree: &Tree,
 ) -> Result<CombState<R>, AllocError>
-    requires { is_comb_start (fuses category.now.rules) category.now.rules.count (labelled tree.now) ≡ true }
+    requires start { IsAdmittedStart (fuses category.now.rules) category.now.rules.count (labelled tree.now) }
+    requires left { is_left_comb (labelled tree.now) ≡ true }
     ensures state { IfOk result (λ s. IsState (symbols R.StarRing category.now) (size (labelled tree.now)) s) }
     ensures value { let c = symbols R.StarRing category.now in
         IfOk result (λ s. state_of c.ring s ≡ (leaves (labelled tree.now), own_vector c.ring (labelled tree.now))) }

@@ -13,7 +13,7 @@ use crate::key::{Strands, copied};
 use crate::vector::CombVector;
 use comb_laws::Operator;
 use program_text::Sign;
-use ring_laws::StarRing;
+use ring_laws::{Overflow, StarRing};
 use std::alloc::Global;
 use symbol_table::Category;
 use word_runs::StepFault;
@@ -23,6 +23,26 @@ use word_runs::StepFault;
 pub(crate) struct CombState<R: StarRing> {
     pub(crate) strands: Strands,
     pub(crate) vector: CombVector<R>,
+}
+
+impl<R: StarRing> CombState<R> {
+    ghost use Rattle.std.specs.Prelude.{IfOk};
+    ghost use Rattle.ring_laws.specs.Stated.{Gives};
+    ghost use Rattle.symbol_table.specs.Category.{symbols};
+    ghost use Rattle.symbol_table.specs.Draft.{IsMember};
+    ghost use Rattle.comb_run.specs.Entries.{AreEntries};
+    ghost use Rattle.comb_run.specs.Evaluated.{state_weight_at};
+    ghost use Rattle.comb_run.specs.States.{state_of};
+
+    /// The weight of the vector over the strands.
+    pub(crate) fn weight(&self, category: &Category<R>) -> Result<R::Elem, Overflow>
+        requires { AreEntries (symbols R.StarRing category.now) self.now.strands.items self.now.vector }
+        ensures value { let c = symbols R.StarRing category.now in
+            Gives result (state_weight_at c (state_of c.ring self.now)) }
+        ensures member { IfOk result (λ z. IsMember R.StarRing category.now z) }
+    {
+        self.vector.weight(category, self.strands.as_slice())
+    }
 }
 
 /// The strands with those at gap k swapped.

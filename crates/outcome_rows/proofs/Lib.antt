@@ -1,1 +1,4 @@
+pub mod OutcomeLemmas
+pub mod PartLemmas
 pub mod ProgramLemmas
+pub mod RowLemmas

@@ -1,6 +1,6 @@
 -- The commands of a well formed program may run.
 use Rattle.std.proofs.Common.{◌≡◌, Bool, ℕ, ◌+◌, ◌<◌, ◌≤◌, ◌^◌, List, [], ◌∷◌, ◌++◌, map, take, get_or, length, true, refl, ap, sym, subst, ◌∙◌, arith}
-use Rattle.std.specs.List.{AllByRecursion, flat_map}
+use Rattle.std.specs.List.{AllByRecursion}
 use Rattle.std.proofs.lemmas.List.{map-append, take_more}
 use Rattle.tree_shapes.specs.Labelled.{size, leaves}
 use Rattle.program_text.specs.Letters.{IsTestOf, gap_in, gap_of, letter_at, letters, measurements, outcomes_of}
@@ -12,10 +12,9 @@ use Rattle.program_text.specs.declared.plan.Site.{Site}
 use Rattle.program_text.proofs.KeptLemmas.{commands_push, measurements_push}
 use Rattle.word_runs.specs.Told.{Told, IsGap}
 use Rattle.word_runs.proofs.EachLemmas.{all_append, all_map}
-use Rattle.word_runs.proofs.RunLemmas.{measurements_more}
 use Rattle.run_laws.specs.Timely.{is_timely}
 use Rattle.run_laws.proofs.ProgramLemmas.{programs_may_run}
-use Rattle.outcome_rows.specs.Commands.{AreRunnable, ProgramsAreRunnable}
+use Rattle.outcome_rows.specs.Commands.{ProgramsAreRunnable}
 
 -- the commands of one more site
 pub site_more : (sites : List Site) (i : ℕ) (site : Site) → i < length sites → site ≡ get_or sites i site

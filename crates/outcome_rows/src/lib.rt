@@ -8,7 +8,8 @@
 #![tactic(auto)]
 
 mod commands;
+pub mod laws;
 mod rows;
 
 pub use commands::text_commands;
-pub use rows::{Row, Rows};
+pub use rows::{Row, Rows, rows_of_words, text_outcomes};
