@@ -1,0 +1,4 @@
+pub mod Labels
+pub mod Report
+pub mod Parts
+pub mod TreeReport

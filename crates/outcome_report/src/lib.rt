@@ -1,0 +1,21 @@
+//! The reports of runs, as bytes: each line ends with the byte 10, and its words stand with one space between two.
+//! Numbers are canonical and labels are written by name.
+//!
+//! Glossary:
+//! - *report*: the total, and a line for each row (`specs/Report.antt`, [`report`]).
+//! - *tree report*: the strands and the shape, and for each live word its outcomes and its amplitudes
+//!   (`specs/TreeReport.antt`, [`tree_report`]).
+//! - *shape*: a strand is its number, counted from 1, and a node is `(L R)` (`specs/TreeReport.antt`, `shape_text`).
+#![tactic(auto)]
+
+mod labels;
+mod row_lines;
+mod shape_line;
+mod state_lines;
+
+pub use labels::write_labels;
+pub use row_lines::report;
+pub use state_lines::tree_report;
+
+#[cfg(test)]
+mod tests;
