@@ -49,12 +49,3 @@ fits_step {E} S done a v e before x h =
       | inl earlier ↦ before x earlier
       | inr here ↦ subst (λ (z : List ℕ). is_some (S z) ≡ true) (same_key a x here) (ap is_some e)
     ]
-
--- fits at two lists
-pub fits_both : {E : Type 0} (S : List ℕ → Option E) (first second : List (List ℕ)) → ((x : List ℕ) → among x first ≡ true → is_some (S x) ≡ true) → ((x : List ℕ) → among x second ≡ true → is_some (S x) ≡ true)
-    → (x : List ℕ) → among x (first ++ second) ≡ true → is_some (S x) ≡ true
-fits_both S first second f s x h =
-    elim (one_of (among x first) (among x second) (sym (list_any-append (λ y. bytes_eq y x) first second) ∙ h)) [
-      | inl earlier ↦ f x earlier
-      | inr later ↦ s x later
-    ]

@@ -52,6 +52,11 @@ impl<R: StarRing> Amps<R> {
         Amps::new(self.alloc)
     }
 
+    /// The allocator that the amplitudes take memory from.
+    pub fn allocator(&self) -> Global {
+        self.alloc
+    }
+
     /// How many keys have an amplitude. Keys are in order and no number is zero.
     pub fn len(&self) -> usize
         ensures len { result ≡ length self.now }

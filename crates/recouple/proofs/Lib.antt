@@ -11,5 +11,6 @@ pub mod RowLemmas
 pub mod SomeLemmas
 pub mod StartLemmas
 pub mod StateLemmas
+pub mod TargetLemmas
 pub mod TermLemmas
 pub mod ValueLemmas

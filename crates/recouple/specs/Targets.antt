@@ -2,6 +2,7 @@
 use Rattle.std.specs.Prelude.{ℕ, zero, suc, ◌-◌, Bool, true, ◌&&◌, not, List, [], map, Option, is_some, if◌then◌else◌, slice_index, slice_set}
 use Rattle.amp_store.specs.Amplitudes.{amplitude_at}
 use Rattle.std.specs.List.{flat_map, range_with_len}
+use Rattle.arrayvec.specs.ArrayVec.{ArrayVec}
 use Rattle.recouple.specs.Rotations.{after}
 use Rattle.recouple.specs.declared.rotation.Rotation.{Rotation}
 
@@ -33,3 +34,7 @@ targets_in es rotation count some = flat_map (λ e. row_here rotation es count e
 -- those of all old keys
 abbrev pub targets_of : {E : Type 0} → Rotation → ℕ → List (List ℕ × E) → List (List ℕ)
 targets_of rotation count es = targets_in es rotation count es
+
+-- the labels of some keys
+abbrev pub labels_in : List (ArrayVec ℕ) → List (List ℕ)
+labels_in keys = map (λ key. key.items) keys

@@ -13,6 +13,7 @@ mod keys;
 mod raising;
 mod rotation;
 mod state;
+mod targets;
 mod terms;
 
 pub use begin::start;

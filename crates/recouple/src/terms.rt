@@ -74,13 +74,13 @@ fn raise_term<R: StarRing>(
         Gives result (raise_step c strands.now rotation.now (amplitude_of c.ring amps.now) key.now.items t sum.now) }
     ensures member { IfOk result (λ z. IsTrue ((R.ring category.now.ring).member z)) }
 {
-    let Some(old) = amps.get(&before(key, rotation, t)) else {
-        return Ok(category.ring().copy(sum));
-    };
     let at = index_of(strands, rotation, key, t);
     if !at.is_admissible(category.rules()) {
         return Ok(category.ring().copy(sum));
     }
+    let Some(old) = amps.get(&before(key, rotation, t)) else {
+        return Ok(category.ring().copy(sum));
+    };
     let factor = factor_at(category, rotation, &at);
     add_product(category.ring(), sum, &factor, old)
 }

@@ -1,67 +1,59 @@
-use Rattle.std.proofs.Common.{◌≡◌, ◌≤◌, ◌++◌, ◌+◌, List, ℕ, ap, sym, ◌∙◌, arith, length, take, take_all}
+use Rattle.std.proofs.Common.{◌≡◌, List, ℕ, ap, sym, ◌∙◌, length}
+use Rattle.fusion_rules.specs.Fusion.{Fusion}
+use Rattle.symbol_table.specs.Symbols.{Symbols}
 use Rattle.symbol_table.specs.Category.{draft_symbols}
 use Rattle.symbol_table.specs.Draft.{given}
-use Rattle.amp_store.specs.Amplitudes.{amplitude_of}
-use Rattle.recouple.specs.Rotations.{IsKey}
-use Rattle.recouple.specs.Raises.{raised, raised_at}
-use Rattle.recouple.specs.Targets.{row_here, targets_in, targets_of}
+use Rattle.amp_store.specs.Amplitudes.{amplitude_at, amplitude_of}
 use Rattle.amp_store.specs.Gathered.{among, gathered}
-use Rattle.amp_store.proofs.GatherLemmas.{fits_both}
-use Rattle.recouple.proofs.EndLemmas.{entry_has, targets_one, here_keys, keys_both, raised_known, raised_over, fits_all, fuses_low}
+use Rattle.recouple.specs.Raises.{raised}
+use Rattle.recouple.specs.Targets.{labels_in, targets_of}
+use Rattle.recouple.proofs.EndLemmas.{raised_known, raised_over, fits_all, fuses_low}
+use Rattle.recouple.proofs.TargetLemmas.{gathered_same, listed, place_of, targets_over}
 use Rattle.recouple.proofs.raising.raise_amps.Given.{Over}
 use Rattle.recouple.proofs.raising.raise_amps.Goals as goal
 
-pub raise_column-requires-clause-key : goal.raise_column-requires-clause-key
-raise_column-requires-clause-key g c =
-    let e : List ℕ × g.row.R-Elem.Denot = (c.entry.result.0.now.items, c.entry.result.1.now) in
-    let has = entry_has c.args.amps.now c.loop-place.place e c.entry.ensures in
-    c.requires.amps.keys c.entry.result.0.now.items has.0 has.1
+pub new_keys-requires-clause-node : goal.new_keys-requires-clause-node
+new_keys-requires-clause-node g c key v there =
+    place_of (length c.args.strands.now) (length key) c.args.rotation.now.node (c.requires.amps.keys key v there).long c.requires.rotation.node
 
-pub loop-place-preserved : goal.loop-place-preserved
-loop-place-preserved g c =
-    let r = g.R.StarRing.ring c.args.category.now.ring in
-    let s = draft_symbols r g.R.StarRing.held c.args.category.now in
-    let strands = c.args.strands.now in
-    let rotation = c.args.rotation.now in
-    let es = c.args.amps.now in
-    let v = amplitude_of r es in
-    let key = c.entry.result.0.now.items in
-    let e : List ℕ × g.row.R-Elem.Denot = (c.entry.result.0.now.items, c.entry.result.1.now) in
-    let has = entry_has es c.loop-place.place e c.entry.ensures in
-    let is : IsKey s.count (length strands) key = c.requires.amps.keys key has.0 has.1 in
-    let done = targets_in es rotation s.count (take c.loop-place.place es) in
-    let more : targets_in es rotation s.count (take (c.loop-place.place + 1) es) ≡ done ++ row_here rotation es s.count key = targets_one rotation s.count es c.loop-place.place e c.entry.ensures in
-    record {
-      entries = λ x. c.in_ok-raise_column.ensures.entries done c.loop-place.invariant.entries x ∙ ap (λ l. gathered g.R.StarRing.held (raised s strands rotation v) l x) (sym more);
-      fits = λ x h. fits_both (raised_at s strands rotation v) done (row_here rotation es s.count key) c.loop-place.invariant.fits c.in_ok-raise_column.ensures.fits x (ap (among x) (sym more) ∙ h);
-      keys = λ x h. keys_both s.count (length strands) done (row_here rotation es s.count key) c.loop-place.invariant.keys (λ y i. here_keys s.count (length strands) rotation es key y c.requires.rotation is i) x (ap (among x) (sym more) ∙ h);
-    }
+pub new_keys-requires-clause-parent : goal.new_keys-requires-clause-parent
+new_keys-requires-clause-parent g c key v there =
+    place_of (length c.args.strands.now) (length key) c.args.rotation.now.parent (c.requires.amps.keys key v there).long c.requires.rotation.parent
 
--- the targets of all keys are done
-all_done : (g : Over) (c : goal.After-in_order g)
-    → targets_in c.args.amps.now c.args.rotation.now c.args.category.now.rules.count (take c.loop-place.place c.args.amps.now) ≡ targets_of c.args.rotation.now c.args.category.now.rules.count c.args.amps.now
-all_done g c =
-    let end : length c.args.amps.now ≤ c.loop-place.place = omega (arith, c.len-place-end.ensures.len, c.loop-place-test.false) in
-    ap (targets_in c.args.amps.now c.args.rotation.now c.args.category.now.rules.count) (take_all c.loop-place.place c.args.amps.now end)
+pub raise_keys-requires-clause-keys : goal.raise_keys-requires-clause-keys
+raise_keys-requires-clause-keys g c x h =
+    let count = c.args.category.now.rules.count in
+    let counted = c.count.ensures.count ∙ ap (λ (q : Fusion). q.count) c.rules.ensures in
+    targets_over (g.R.StarRing.ring c.args.category.now.ring) count (length c.args.strands.now) c.args.rotation.now c.args.amps.now c.requires.rotation c.requires.amps x
+    (sym (listed c.args.rotation.now c.args.amps.now c.in_ok-keys.keys.items c.as_slice.result.now c.count.result count c.as_slice.ensures.value counted c.in_ok-keys.ensures x) ∙ h)
 
-pub returns-clause-amplitudes : goal.returns-clause-amplitudes
-returns-clause-amplitudes g c =
+module _ (g : Over) (c : goal.After-drop-keys g) where
+  abbrev s : Symbols g.row.R-Elem.Denot
+  s = draft_symbols (g.R.StarRing.ring c.args.category.now.ring) g.R.StarRing.held c.args.category.now
+
+  -- the keys are those at which an amplitude may be
+  are : (x : List ℕ) → among x (labels_in c.as_slice.result.now) ≡ among x (targets_of c.args.rotation.now c.args.category.now.rules.count c.args.amps.now)
+  are = listed c.args.rotation.now c.args.amps.now c.in_ok-keys.keys.items c.as_slice.result.now c.count.result c.args.category.now.rules.count c.as_slice.ensures.value
+      (c.count.ensures.count ∙ ap (λ (q : Fusion). q.count) c.rules.ensures) c.in_ok-keys.ensures
+
+  known : (x : List ℕ) → amplitude_at c.in-Ok.new x ≡ gathered g.R.StarRing.held (raised s c.args.strands.now c.args.rotation.now (amplitude_of s.ring c.args.amps.now)) (targets_of c.args.rotation.now s.count c.args.amps.now) x
+  known x =
+      c.in-Ok.ensures.entries x
+      ∙ gathered_same g.R.StarRing.held (raised s c.args.strands.now c.args.rotation.now (amplitude_of s.ring c.args.amps.now)) (labels_in c.as_slice.result.now) (targets_of c.args.rotation.now s.count c.args.amps.now) x (are x)
+
+pub returns-in-Ok-clause-amplitudes : goal.returns-in-Ok-clause-amplitudes
+returns-in-Ok-clause-amplitudes g c =
+    raised_known (g.met.R.StarRing.laws c.args.category.now.ring) (given c.args.category.now) (λ a b u. fuses_low c.args.category.now.rules a b u) c.args.strands.now c.args.rotation.now c.requires.rotation
+    c.args.amps.now c.requires.amps c.in-Ok.new (known g c)
+
+pub returns-in-Ok-clause-over : goal.returns-in-Ok-clause-over
+returns-in-Ok-clause-over g c =
     let base = c.args.category.now.ring in
-    let s = draft_symbols (g.R.StarRing.ring base) g.R.StarRing.held c.args.category.now in
-    raised_known (g.met.R.StarRing.laws base) (given c.args.category.now) (λ a b u. fuses_low c.args.category.now.rules a b u) c.args.strands.now c.args.rotation.now c.requires.rotation
-    c.args.amps.now c.requires.amps c.loop-place.new
-    (λ x. c.loop-place.invariant.entries x ∙ ap (λ l. gathered g.R.StarRing.held (raised s c.args.strands.now c.args.rotation.now (amplitude_of s.ring c.args.amps.now)) l x) (all_done g c))
-
-pub returns-clause-over : goal.returns-clause-over
-returns-clause-over g c =
-    let base = c.args.category.now.ring in
-    let s = draft_symbols (g.R.StarRing.ring base) g.R.StarRing.held c.args.category.now in
     raised_over (g.met.R.StarRing.laws base) (given c.args.category.now) (λ a b u. fuses_low c.args.category.now.rules a b u) c.args.strands.now c.args.rotation.now c.requires.rotation
-    c.args.amps.now c.requires.amps c.loop-place.new
-    (λ x. c.loop-place.invariant.entries x ∙ ap (λ l. gathered g.R.StarRing.held (raised s c.args.strands.now c.args.rotation.now (amplitude_of s.ring c.args.amps.now)) l x) (all_done g c))
-    (λ x h. c.loop-place.invariant.keys x (ap (among x) (all_done g c) ∙ h))
+    c.args.amps.now c.requires.amps c.in-Ok.new (known g c)
+    (targets_over (g.R.StarRing.ring base) c.args.category.now.rules.count (length c.args.strands.now) c.args.rotation.now c.args.amps.now c.requires.rotation c.requires.amps)
 
-pub returns-clause-fits : goal.returns-clause-fits
-returns-clause-fits g c =
+pub returns-in-Ok-clause-fits : goal.returns-in-Ok-clause-fits
+returns-in-Ok-clause-fits g c =
     fits_all (g.met.R.StarRing.laws c.args.category.now.ring) (given c.args.category.now) (λ a b u. fuses_low c.args.category.now.rules a b u) c.args.strands.now c.args.rotation.now c.requires.rotation
-    c.args.amps.now c.requires.amps (λ x h. c.loop-place.invariant.fits x (ap (among x) (all_done g c) ∙ h))
+    c.args.amps.now c.requires.amps (λ x h. c.in-Ok.ensures.fits x (are g c x ∙ h))

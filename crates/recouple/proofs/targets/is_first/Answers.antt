@@ -1,7 +1,7 @@
 use Rattle.std.proofs.Common.{◌<◌, ◌-◌, ◌∙◌, ℕ, List, ap, sym, arith, slice_index, slice_set}
 use Rattle.amp_store.specs.Amplitudes.{amplitude_at}
 use Rattle.recouple.proofs.ColumnLemmas.{none_fails}
-use Rattle.recouple.proofs.raising.is_first.Goals as goal
+use Rattle.recouple.proofs.targets.is_first.Goals as goal
 
 pub returns-in-Some : goal.returns-in-Some
 returns-in-Some g c =

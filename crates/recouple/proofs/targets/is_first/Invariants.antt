@@ -1,7 +1,7 @@
 use Rattle.std.proofs.Common.{◌≡◌, ◌-◌, true, slice_set}
 use Rattle.amp_store.specs.Amplitudes.{amplitude_at}
 use Rattle.recouple.specs.Targets.{none_below}
-use Rattle.recouple.proofs.raising.is_first.Given as goal
+use Rattle.recouple.proofs.targets.is_first.Given as goal
 
 -- none of the labels so far has an amplitude
 abbrev pub invariant-loop-label : goal.invariant-loop-label

@@ -1,21 +1,19 @@
-use Rattle.std.proofs.Common.{◌≡◌, ℕ, List, true, take, length}
+use Rattle.std.proofs.Common.{◌≡◌, ℕ, List, take, true}
 use Rattle.std.specs.Prelude.{is_some}
 use Rattle.symbol_table.specs.Category.{draft_symbols}
 use Rattle.amp_store.specs.Amplitudes.{amplitude_at, amplitude_of}
-use Rattle.recouple.specs.Rotations.{IsKey}
 use Rattle.recouple.specs.Raises.{raised, raised_at}
-use Rattle.recouple.specs.Targets.{targets_in}
+use Rattle.recouple.specs.Targets.{labels_in}
 use Rattle.amp_store.specs.Gathered.{among, gathered}
-use Rattle.recouple.proofs.raising.raise_amps.Given as goal
+use Rattle.recouple.proofs.raising.raise_keys.Given as goal
 
--- the amplitudes at the targets of the keys so far, whose items fit
-abbrev pub invariant-loop-place : goal.invariant-loop-place
-invariant-loop-place g l =
+-- the amplitudes at the keys so far, whose items fit
+abbrev pub invariant-loop-key : goal.invariant-loop-key
+invariant-loop-key g l =
     let c = draft_symbols (g.R.StarRing.ring l.category.ring) g.R.StarRing.held l.category in
     let v = amplitude_of c.ring l.amps in
-    let done = targets_in l.amps l.rotation c.count (take l.place l.amps) in
+    let done = labels_in (take l.key-index l.keys) in
     record {
       entries : (x : List ℕ) → amplitude_at l.new x ≡ gathered c.held (raised c l.strands l.rotation v) done x;
       fits : (x : List ℕ) → among x done ≡ true → is_some (raised_at c l.strands l.rotation v x) ≡ true;
-      keys : (x : List ℕ) → among x done ≡ true → IsKey c.count (length l.strands) x;
     }
