@@ -25,28 +25,27 @@ use Rattle.law_events.specs.Sides.{first_of_all}
 use Rattle.anyon_app.specs.declared.texts.Kind as text
 use Rattle.anyon_app.specs.declared.texts.Kind.TheVariants.{Category}
 use Rattle.anyon_app.specs.Replies.{Reply, done, refused, limited}
-use Rattle.anyon_app.specs.Refusals.{category_line, too_long, not_built, rules_line, event_line, event_reply, event_words}
+use Rattle.anyon_app.specs.Refusals.{category_line, too_long, rules_line, event_line, event_reply, event_words}
 use Rattle.anyon_app.specs.Work.{Work, Says, reply_of, text_limit, judged, read_work}
 use Rattle.anyon_app.specs.Categories.{named_of, named_or}
 use Rattle.anyon_app.specs.Verdicts.{category_verdict, symbols_in, unless}
 use Rattle.anyon_app.specs.Check.{accepted, check_work}
-use Rattle.anyon_app.specs.Comb.{comb_work, count_line, program_work}
 use Rattle.anyon_app.specs.Format.{format_work}
-use Rattle.anyon_app.specs.Laws.{IsCategoryText, HasLawfulText, SayTheSame, AcceptedIsLawful, LawfulIsAccepted, FinishedIsLawful, FormatSettles, FormattedAlike}
+use Rattle.anyon_app.specs.Laws.{IsCategoryText, HasLawfulText, SayTheSame, AcceptedIsLawful, LawfulIsAccepted, FormatSettles, FormattedAlike}
 use Rattle.anyon_app.proofs.JudgeLemmas.{nothing_decides}
 
 -- a refusal is no report
-refused_apart : (line report : List ℕ) → refused line ≡ done report → ⊥
+pub refused_apart : (line report : List ℕ) → refused line ≡ done report → ⊥
 refused_apart line report e = let s = ap (λ r. r.status) e in cc
 
-limited_apart : (line report : List ℕ) → limited line ≡ done report → ⊥
+pub limited_apart : (line report : List ℕ) → limited line ≡ done report → ⊥
 limited_apart line report e = let s = ap (λ r. r.status) e in cc
 
-some_same : (x y : Reply) → Some x ≡ Some y → x ≡ y
+pub some_same : (x y : Reply) → Some x ≡ Some y → x ≡ y
 some_same x y e = cc
 
 -- What was read on the way to a report.
-record WasRead {T : Type 0} (reader : List ℕ → Result T Reply) (next : T → Work) (files : Files) (name report : List ℕ) : Type 0 where
+pub record WasRead {T : Type 0} (reader : List ℕ → Result T Reply) (next : T → Work) (files : Files) (name report : List ℕ) : Type 0 where
   pub text : List ℕ
   pub value : T
   pub there : files name ≡ Some text
@@ -74,7 +73,7 @@ module _ {T : Type 0} (long : Reply) (reader : List ℕ → Result T Reply) (nex
   by_text None there went = absurd cc
   by_text (Some text) there went = by_size text there (nat_lt text_limit (length text)) refl went
 
-  was_read : reply_of (read_work long reader name next) files ≡ Some (done report) → WasRead reader next files name report
+  pub was_read : reply_of (read_work long reader name next) files ≡ Some (done report) → WasRead reader next files name report
   was_read went = by_text (files name) refl went
 
 -- the other way: what is read leads on
@@ -87,11 +86,11 @@ leads_on long reader next files name text value there short reads =
     ∙ ap (λ r. reply_of (judged r next) files) reads
 
 -- what a category text is read as
-category_is : (r : Result NamedSymbols Fault) (named : NamedSymbols) → named_or r ≡ Ok named → r ≡ Ok named
+pub category_is : (r : Result NamedSymbols Fault) (named : NamedSymbols) → named_or r ≡ Ok named → r ≡ Ok named
 category_is (Ok other) named e = let same : other ≡ named = cc in ap Ok same
 category_is (Err fault) named e = absurd cc
 
-no_category : (text : List ℕ) (reply : Reply) (report : List ℕ) → named_of text ≡ Err reply → reply ≡ done report → ⊥
+pub no_category : (text : List ℕ) (reply : Reply) (report : List ℕ) → named_of text ≡ Err reply → reply ≡ done report → ⊥
 no_category text reply report is e = along (category_of text) is
   where
     along : (r : Result NamedSymbols Fault) → named_or r ≡ Err reply → ⊥
@@ -100,7 +99,7 @@ no_category text reply report is e = along (category_of text) is
         let same : category_line fault.line fault.cause ≡ reply = cc in
         refused_apart (category_line fault.line fault.cause).bytes report (same ∙ e)
 
-too_long_apart : (report : List ℕ) → too_long Category ≡ done report → ⊥
+pub too_long_apart : (report : List ℕ) → too_long Category ≡ done report → ⊥
 too_long_apart report e = refused_apart _ report e
 
 -- what decides about a category is no report
@@ -132,18 +131,14 @@ module _ (names : List (List ℕ)) where
 
 -- a report comes only where nothing decides about the category
 module _ (named : NamedSymbols) (next : Unit {0} → Work) (files : Files) (report : List ℕ) where
-  undecided : (o : Option Reply) → category_verdict named ≡ o → reply_of (judged (unless o) next) files ≡ Some (done report)
+  pub undecided : (o : Option Reply) → category_verdict named ≡ o → reply_of (judged (unless o) next) files ≡ Some (done report)
       → (category_verdict named ≡ None) × (reply_of (next tt) files ≡ Some (done report))
   undecided None is went = (is, went)
   undecided (Some reply) is went =
       absurd (verdict_apart named.names (rules_fault named.given.count named.given.fuse) (first_of_all (symbols_in named)) reply report is (some_same reply (done report) went))
 
-  two_labels : (b : Bool) → reply_of (judged (unless (if b then None else Some (not_built Category))) next) files ≡ Some (done report) → reply_of (next tt) files ≡ Some (done report)
-  two_labels true went = went
-  two_labels false went = absurd (refused_apart _ report (some_same _ (done report) went))
-
 -- a text about whose category nothing decides has a lawful one
-has_lawful : (files : Files) (name text : List ℕ) (named : NamedSymbols) → files name ≡ Some text → length text ≤ text_limit → named_of text ≡ Ok named
+pub has_lawful : (files : Files) (name text : List ℕ) (named : NamedSymbols) → files name ≡ Some text → length text ≤ text_limit → named_of text ≡ Ok named
     → category_verdict named ≡ None → HasLawfulText files name
 has_lawful files name text named there short reads none =
     let is = nothing_where named.names (rules_fault named.given.count named.given.fuse) (first_of_all (symbols_in named)) none in
@@ -160,16 +155,6 @@ accepted_is_lawful files name report went =
     too_long_apart (λ text reply is e. no_category text reply report is e) went in
     let nothing = undecided read.value (λ _. Says (done (accepted read.value))) files report (category_verdict read.value) refl read.went in
     has_lawful files name read.text read.value read.there read.short read.reads nothing.0
-
-pub finished_is_lawful : FinishedIsLawful
-unfolding comb_work
-finished_is_lawful files category program report went =
-    let read = was_read (too_long Category) named_of
-    (λ named. judged (unless (count_line named.given.count)) (λ _. judged (unless (category_verdict named)) (λ _. program_work program named))) files category report
-    too_long_apart (λ text reply is e. no_category text reply report is e) went in
-    let two = two_labels read.value (λ _. judged (unless (category_verdict read.value)) (λ _. program_work program read.value)) files report (read.value.given.count == 2) read.went in
-    let nothing = undecided read.value (λ _. program_work program read.value) files report (category_verdict read.value) refl two in
-    has_lawful files category read.text read.value read.there read.short read.reads nothing.0
 
 -- each F of what can be said is of the root's ring
 f_member : (x : NamedSymbols) → IsSaid x → (at : FIndex) → (b : Bool) → f_index_admissible x.given at ≡ b → IsTrue ((ring_at x.root).member (f_value x at))

@@ -4,4 +4,5 @@ mod Puts
 mod Reached
 mod JudgeLemmas
 pub mod LawLemmas
+pub mod RunLemmas
 mod Worked

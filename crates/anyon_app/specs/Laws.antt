@@ -1,4 +1,4 @@
--- What replies say of categories, over the bytes of their texts.
+-- What replies say of categories and of runs, over the bytes of their texts.
 use Rattle.std.specs.Prelude.{◌≡◌, ◌≤◌, ℕ, List, length, Some, Ok}
 use Rattle.io_ports.specs.Ports.{Files}
 use Rattle.symbol_table.specs.Laws.{IsLawful}
@@ -6,11 +6,15 @@ use Rattle.law_events.specs.Verdicts.{EveryItemFits}
 use Rattle.category_text.specs.Named.{NamedSymbols}
 use Rattle.category_text.specs.Reading.{category_of}
 use Rattle.category_text.specs.Again.{SameSymbols}
+use Rattle.program_text.specs.Grammar.{program_in}
+use Rattle.program_text.specs.Program.{Program}
+use Rattle.program_text.specs.WellFormed.{commands_in}
+use Rattle.comb_laws.specs.Plans.{outcomes_of}
+use Rattle.outcome_report.specs.Report.{report_of}
 use Rattle.anyon_app.specs.Replies.{done}
-use Rattle.anyon_app.specs.Work.{reply_of, text_limit}
+use Rattle.anyon_app.specs.Work.{Work, reply_of, text_limit}
 use Rattle.anyon_app.specs.Verdicts.{symbols_in}
 use Rattle.anyon_app.specs.Check.{accepted, check_work}
-use Rattle.anyon_app.specs.Comb.{comb_work}
 use Rattle.anyon_app.specs.Format.{format_work}
 
 -- The text of a name is there, is not too long, and is read as this category.
@@ -37,11 +41,39 @@ LawfulIsAccepted =
     (files : Files) (name : List ℕ) (named : NamedSymbols) → IsCategoryText files name named → IsLawful (symbols_in named)
     → EveryItemFits (symbols_in named) → reply_of (check_work name) files ≡ Some (done (accepted named))
 
--- whatever `comb` finishes, the category is lawful
-abbrev pub FinishedIsLawful : Type 0
-FinishedIsLawful =
-    (files : Files) (category program report : List ℕ) → reply_of (comb_work category program) files ≡ Some (done report)
+-- whatever the command finishes, the category is lawful
+abbrev pub FinishedIsLawful : (List ℕ → List ℕ → Work) → Type 0
+FinishedIsLawful work =
+    (files : Files) (category program report : List ℕ) → reply_of (work category program) files ≡ Some (done report)
     → HasLawfulText files category
+
+-- The text of a name is there, is not too long, and is read as this program over the category.
+pub record IsProgramText (files : Files) (name : List ℕ) (named : NamedSymbols) (plan : Program) : Type 0 where
+  pub text : List ℕ
+  pub there : files name ≡ Some text
+  pub short : length text ≤ text_limit
+  pub reads : program_in named.names named.given.fuse text ≡ Ok plan
+
+-- A report of the rows: those of the program of one text over the category of the other, by the comb operators in the order
+-- of the text.
+pub record HasRows (files : Files) (category program report : List ℕ) : Type 0 where
+  pub named : NamedSymbols
+  pub plan : Program
+  pub category_is : IsCategoryText files category named
+  pub program_is : IsProgramText files program named plan
+  pub report_is : report ≡ report_of named.names (outcomes_of (symbols_in named) plan.start (commands_in plan.sites))
+
+-- whatever the command finishes, it writes these rows
+abbrev pub ReportsRows : (List ℕ → List ℕ → Work) → Type 0
+ReportsRows work =
+    (files : Files) (category program report : List ℕ) → reply_of (work category program) files ≡ Some (done report)
+    → HasRows files category program report
+
+-- what both commands finish, over the same texts, they write alike
+abbrev pub ReportAlike : (List ℕ → List ℕ → Work) → (List ℕ → List ℕ → Work) → Type 0
+ReportAlike first second =
+    (files : Files) (category program one other : List ℕ) → reply_of (first category program) files ≡ Some (done one)
+    → reply_of (second category program) files ≡ Some (done other) → one ≡ other
 
 -- what `format` wrote is formatted to itself, as far as it isn't too long to be read
 abbrev pub FormatSettles : Type 0

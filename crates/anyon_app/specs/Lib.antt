@@ -4,7 +4,6 @@ pub mod Work
 pub mod Stages
 pub mod Causes
 pub mod Refusals
-pub mod Report
 pub mod Categories
 pub mod Verdicts
 pub mod Programs

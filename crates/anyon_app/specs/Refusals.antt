@@ -7,7 +7,7 @@ use Rattle.symbol_table.specs.declared.law.Kind.{Kind}
 use Rattle.symbol_table.specs.declared.law.Kind.TheVariants.{Fails, Overflow}
 use Rattle.symbol_table.specs.declared.law.Event.{Event}
 use Rattle.anyon_app.specs.declared.texts.Kind as text
-use Rattle.anyon_app.specs.declared.texts.Kind.TheVariants.{Category, Program, CombProgram}
+use Rattle.anyon_app.specs.declared.texts.Kind.TheVariants.{Category, Program}
 use Rattle.category_text.specs.declared.fault.CategoryCause.{CategoryCause}
 use Rattle.word_runs.specs.declared.fault.RunStop.{RunStop}
 use Rattle.outcome_report.specs.Labels.{label_names}
@@ -21,7 +21,6 @@ use Rattle.anyon_app.specs.Causes.{category_cause, program_cause}
 abbrev pub kind_word : text.Kind → List ℕ
 kind_word Category = codes "category"
 kind_word Program = codes "program"
-kind_word CombProgram = codes "program"
 
 -- a line of a text that its grammar refuses, with the words of its cause
 abbrev pub refused_line : text.Kind → ℕ → List ℕ → Reply
@@ -35,9 +34,9 @@ category_line line cause = refused_line Category line (category_cause cause)
 abbrev pub program_line : ℕ → ProgramCause → Reply
 program_line line cause = refusal_of (kind_word Program ∷ codes "line" ∷ decimal line ∷ program_cause cause)
 
--- a text that isn't treated
-abbrev pub not_built : text.Kind → Reply
-not_built kind = refusal_of (codes "not built" ∷ kind_word kind ∷ [])
+-- a start that isn't left-combed, where the program is to run on left-combed paths
+abbrev pub comb_start_line : Reply
+comb_start_line = refusal_of (codes "comb" ∷ codes "start" ∷ [])
 
 -- fusion rules that aren't those of a fusion category
 abbrev pub rules_line : List (List ℕ) → RulesFault → Reply
@@ -58,14 +57,8 @@ abbrev pub event_line : List (List ℕ) → Event → Reply
 event_line names event = event_reply event.kind (event_words names event)
 
 -- a text with more bytes than the limit
-abbrev pub too_long_line : text.Kind → Reply
-too_long_line kind = refusal_of (kind_word kind ∷ codes "too long" ∷ [])
-
--- the same, where such a program isn't treated
 abbrev pub too_long : text.Kind → Reply
-too_long Category = too_long_line Category
-too_long Program = too_long_line Program
-too_long CombProgram = not_built CombProgram
+too_long kind = refusal_of (kind_word kind ∷ codes "too long" ∷ [])
 
 -- where the stated evaluation of a run stops: an item of a turn that doesn't fit, more live words or more amplitudes over
 -- all of them than the limits allow

@@ -11,13 +11,8 @@ use Rattle.outcome_report.specs.Report.{report_of}
 use Rattle.anyon_app.specs.Replies.{Reply, done}
 use Rattle.anyon_app.specs.Refusals.{stop_line}
 use Rattle.anyon_app.specs.Work.{Work, Says, judged}
-use Rattle.anyon_app.specs.Programs.{admitted_work, planned_work}
+use Rattle.anyon_app.specs.Programs.{admitted_work, planned_work, report_or}
 use Rattle.anyon_app.specs.Verdicts.{symbols_in}
-
--- the report of these outcomes, unless the evaluation stops
-abbrev pub report_or : List (List ℕ) → Outcomes Ratio → Result (Outcomes Ratio) RunStop → Result (List ℕ) Reply
-report_or names outcomes (Ok evaluated) = Ok (report_of names outcomes)
-report_or names outcomes (Err stop) = Err (stop_line stop)
 
 -- the report of the total and the rows by the comb operators, or where the stated evaluation on trees stops
 abbrev pub rows_of : NamedSymbols → Program → Result (List ℕ) Reply

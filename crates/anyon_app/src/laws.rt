@@ -3,7 +3,10 @@ ghost use Rattle.std.specs.Prelude.{◌≢◌, IsSome};
 ghost use Rattle.io_ports.specs.Memory.{files_of};
 ghost use Rattle.anyon_app.specs.Work.{reply_of};
 ghost use Rattle.anyon_app.specs.Headline.{work_of};
-ghost use Rattle.anyon_app.specs.Laws.{AcceptedIsLawful, FinishedIsLawful, FormatSettles, FormattedAlike, LawfulIsAccepted};
+ghost use Rattle.anyon_app.specs.Comb.{comb_work};
+ghost use Rattle.anyon_app.specs.Laws.{AcceptedIsLawful, FinishedIsLawful, FormatSettles, FormattedAlike, LawfulIsAccepted, ReportAlike, ReportsRows};
+ghost use Rattle.anyon_app.specs.Run.{run_work};
+ghost use Rattle.anyon_app.specs.Trees.{trees_work};
 
 use crate::{Status, anyon};
 use category_text::canonical_texts;
@@ -24,17 +27,27 @@ pub fn over_sure_shelf<W: Sink>(
     anyon(alloc, words, shelf, sink)
 }
 
-/// What `check`, `comb` and `format` say of categories, over the bytes of their texts.
+/// What `check`, `comb`, `run`, `trees` and `format` say of categories, over the bytes of their texts.
 ///
-/// What `check` accepts, and whatever `comb` finishes, has a category all of whose equations are true; a category all
-/// of whose equations are true and all of whose items fit is accepted. What `format` wrote is formatted to itself, as
-/// far as it isn't too long to be read, and texts that are formatted alike say the same category.
+/// What `check` accepts, and whatever `comb`, `run` and `trees` finish, has a category all of whose equations are true; a
+/// category all of whose equations are true and all of whose items fit is accepted. What `format` wrote is formatted to
+/// itself, as far as it isn't too long to be read, and texts that are formatted alike say the same category.
 pub fn category_replies()
     ensures accepted { AcceptedIsLawful }
     ensures complete { LawfulIsAccepted }
-    ensures finished { FinishedIsLawful }
+    ensures finished_comb { FinishedIsLawful comb_work }
+    ensures finished_run { FinishedIsLawful run_work }
+    ensures finished_trees { FinishedIsLawful trees_work }
     ensures settled { FormatSettles }
     ensures alike { FormattedAlike }
 {
     canonical_texts();
 }
+
+/// What `run` and `comb` write, over the bytes of their texts: the rows of the program by the comb operators in the order
+/// of the text. So where both finish they write the same.
+pub fn run_replies()
+    ensures run { ReportsRows run_work }
+    ensures comb { ReportsRows comb_work }
+    ensures alike { ReportAlike run_work comb_work }
+{}

@@ -9,8 +9,8 @@
 //! - *stage*: a step of a command. It stops the command, or hands on a value (`specs/Stages.antt`).
 //! - *headline*: what the top call says of its status, of the shelf and of the sink
 //!   (`specs/Headline.antt`, [`anyon`]).
-//! - *category replies*: what `check`, `comb` and `format` say of categories, over the bytes of their texts
-//!   (`specs/Laws.antt`, [`category_replies`]).
+//! - *category replies*: what the commands say of categories, over the bytes of their texts (`specs/Laws.antt`,
+//!   [`category_replies`]); *run replies*: what `run` and `comb` write ([`run_replies`]).
 #![tactic(auto)]
 
 mod categories;
@@ -23,7 +23,6 @@ mod laws;
 mod lines;
 mod programs;
 mod refusals;
-mod report;
 mod run;
 mod status;
 mod stop;
@@ -31,7 +30,7 @@ mod texts;
 mod top;
 mod trees;
 
-pub use laws::{category_replies, over_sure_shelf};
+pub use laws::{category_replies, over_sure_shelf, run_replies};
 pub use status::Status;
 use stop::Stop;
 pub use top::anyon;

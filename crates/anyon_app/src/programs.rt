@@ -1,20 +1,30 @@
 // The texts of a command that runs a program: a category that is admitted, and the program.
-ghost use Rattle.std.specs.Prelude.{◌≡◌, ◌<◌, ◌-◌, ◌^◌, IfOk, length};
+ghost use Rattle.std.specs.Prelude.{◌≡◌, ◌<◌, ◌-◌, ◌^◌, IfOk, Result, length};
 ghost use Rattle.fusion_rules.specs.Fusion.{fuses};
 ghost use Rattle.program_text.specs.Program.{program_of};
 ghost use Rattle.program_text.specs.WellFormed.{IsProgram};
 ghost use Rattle.category_text.specs.Named.{named_draft};
 ghost use Rattle.anyon_app.specs.Stages.{Gives, Passes};
-ghost use Rattle.anyon_app.specs.Programs.{admitted_work, planned_work, program_of_text};
+ghost use Rattle.cyclo_core.specs.Ratio.{Ratio};
+ghost use Rattle.comb_laws.specs.Plans.{Outcomes};
+ghost use Rattle.word_runs.specs.Runs.{Runs};
+ghost use Rattle.word_runs.specs.declared.fault.RunStop.{RunStop as Stops};
+ghost use Rattle.outcome_rows.specs.Rows.{outcomes_in};
+ghost use Rattle.anyon_app.specs.Programs.{admitted_work, planned_work, program_of_text, report_or};
 
 use crate::categories::load_category;
 use crate::judge::{Admitted, judge};
-use crate::refusals::program_line;
+use crate::refusals::{program_line, stop_line};
 use crate::stop::Stop;
 use crate::texts::{Kind, text};
+use cyclo_core::Cyclo;
+use fusion_rules::Names;
 use io_ports::Shelf;
+use outcome_report::report;
+use outcome_rows::Rows;
 use program_text::{Plan, ProgramFault, read_program};
 use std::alloc::Global;
+use word_runs::RunFault;
 
 /// The category of a text, judged by its rules and its laws.
 pub fn load_admitted<S: Shelf>(alloc: Global, shelf: &mut S, name: &str) -> Result<Admitted, Stop>
@@ -51,5 +61,26 @@ fn program(alloc: Global, admitted: &Admitted, text: &[u8]) -> Result<Plan, Stop
         Ok(plan) => Ok(plan),
         Err(ProgramFault::At { line, cause }) => Err(program_line(alloc, line, cause)),
         Err(ProgramFault::Memory) => Err(Stop::Memory),
+    }
+}
+
+/// The report of a run's outcomes, or the stop where its evaluation stops.
+pub fn outcomes(
+    alloc: Global,
+    names: &Names,
+    ended: Result<Rows<Cyclo>, RunFault>,
+) -> Result<Vec<u8>, Stop>
+    ensures { (rows : Outcomes Ratio) (stated : Result (Outcomes Ratio) Stops) → Runs outcomes_in ended stated → IfOk ended (λ r. outcomes_in r ≡ rows)
+        → Gives (λ report. report.items) result (report_or names.now rows stated) }
+{
+    let rows = match ended {
+        Ok(rows) => rows,
+        Err(RunFault::Stop(stop)) => return Err(stop_line(alloc, stop)),
+        Err(RunFault::Memory) => return Err(Stop::Memory),
+    };
+    let mut out = Vec::new(alloc);
+    match report(alloc, names, &rows, &mut out) {
+        Ok(()) => Ok(out),
+        Err(_) => Err(Stop::Memory),
     }
 }

@@ -1,16 +1,16 @@
 // The lines of refusals and limits.
 ghost use Rattle.std.specs.Prelude.{◌≡◌, ◌∷◌, IfOk};
 ghost use Rattle.anyon_app.specs.Stages.{StopsWith};
-ghost use Rattle.anyon_app.specs.Refusals.{category_line, event_line, event_words, not_built, refused_line, program_line, rules_line, stop_line, too_long};
+ghost use Rattle.anyon_app.specs.Refusals.{category_line, comb_start_line, event_line, event_words, program_line, refused_line, rules_line, stop_line, too_long};
 ghost use Rattle.anyon_app.specs.Lines.{line_of};
 
 use crate::causes::{category_words, line_words};
-use crate::report::write_labels;
 use crate::stop::{Stop, limit, refusal};
 use crate::texts::Kind;
 use category_text::CategoryCause;
 use fusion_rules::{Names, RulesFault};
 use itoa::Buffer;
+use outcome_report::write_labels;
 use program_text::ProgramCause;
 use std::alloc::{AllocError, Global};
 use symbol_table::{Event, Kind as EventKind};
@@ -20,14 +20,11 @@ use word_runs::RunStop;
 pub fn too_long(alloc: Global, kind: Kind) -> Stop
     ensures { StopsWith (too_long kind) result }
 {
-    match kind {
-        Kind::Category | Kind::Program => refusal(alloc, &[kind.word(), "too long"]),
-        Kind::CombProgram => not_built(alloc, kind),
-    }
+    refusal(alloc, &[kind.word(), "too long"])
 }
 
 /// The stop at a line of a text, with the words of its cause.
-fn refused_line(alloc: Global, kind: Kind, line: u32, cause: &str) -> Stop
+fn refused_line(alloc: Global, kind: Kind, line: u32, cause: &'static str) -> Stop
     ensures { StopsWith (refused_line kind line cause.now) result }
 {
     let mut buffer = Buffer::new();
@@ -46,21 +43,22 @@ pub fn category_line(alloc: Global, line: u32, cause: CategoryCause) -> Stop
 pub fn program_line(alloc: Global, line: u32, cause: ProgramCause) -> Stop
     ensures { StopsWith (program_line line cause) result }
 {
-    let refused = |words: &str| refused_line(alloc, Kind::Program, line, words);
     match cause {
-        ProgramCause::Line(cause) => refused(line_words(cause)),
-        ProgramCause::Header => refused("header"),
-        ProgramCause::Start => refused("start"),
-        ProgramCause::UnknownLabel => refused("unknown label"),
-        ProgramCause::Strands => refused("strands"),
+        ProgramCause::Line(cause) => {
+            refused_line(alloc, Kind::Program, line, line_words(cause))
+        }
+        ProgramCause::Header => refused_line(alloc, Kind::Program, line, "header"),
+        ProgramCause::Start => refused_line(alloc, Kind::Program, line, "start"),
+        ProgramCause::UnknownLabel => refused_line(alloc, Kind::Program, line, "unknown label"),
+        ProgramCause::Strands => refused_line(alloc, Kind::Program, line, "strands"),
         ProgramCause::Inadmissible(gap) => inadmissible_line(alloc, line, gap),
-        ProgramCause::Site => refused("site"),
-        ProgramCause::Command => refused("command"),
-        ProgramCause::Gap => refused("gap"),
-        ProgramCause::Name => refused("name"),
-        ProgramCause::Unnamed => refused("unnamed"),
-        ProgramCause::Unlike => refused("unlike"),
-        ProgramCause::Limit => refused("limit"),
+        ProgramCause::Site => refused_line(alloc, Kind::Program, line, "site"),
+        ProgramCause::Command => refused_line(alloc, Kind::Program, line, "command"),
+        ProgramCause::Gap => refused_line(alloc, Kind::Program, line, "gap"),
+        ProgramCause::Name => refused_line(alloc, Kind::Program, line, "name"),
+        ProgramCause::Unnamed => refused_line(alloc, Kind::Program, line, "unnamed"),
+        ProgramCause::Unlike => refused_line(alloc, Kind::Program, line, "unlike"),
+        ProgramCause::Limit => refused_line(alloc, Kind::Program, line, "limit"),
     }
 }
 
@@ -78,11 +76,11 @@ fn inadmissible_line(alloc: Global, line: u32, gap: u8) -> Stop
     )
 }
 
-/// The stop at a text that isn't treated.
-pub fn not_built(alloc: Global, kind: Kind) -> Stop
-    ensures { StopsWith (not_built kind) result }
+/// The stop at a start that isn't left-combed.
+pub fn comb_start_line(alloc: Global) -> Stop
+    ensures { StopsWith comb_start_line result }
 {
-    refusal(alloc, &["not built", kind.word()])
+    refusal(alloc, &["comb", "start"])
 }
 
 /// The stop at fusion rules that aren't those of a fusion category.

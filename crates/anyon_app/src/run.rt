@@ -8,14 +8,11 @@ ghost use Rattle.anyon_app.specs.Stages.{Gives, Worked};
 ghost use Rattle.anyon_app.specs.Run.{rows_of, run_work};
 
 use crate::judge::Admitted;
-use crate::programs::{load_admitted, load_program};
-use crate::refusals::stop_line;
+use crate::programs::{load_admitted, load_program, outcomes};
 use crate::stop::Stop;
 use io_ports::Shelf;
-use outcome_report::report;
 use program_text::Plan;
 use std::alloc::Global;
-use word_runs::RunFault;
 
 /// Reads a category and judges it, reads a program, runs it on trees in the order of the text and reports
 /// its rows. The category is judged before the program is read.
@@ -37,14 +34,9 @@ fn rows(alloc: Global, admitted: &Admitted, plan: &Plan) -> Result<Vec<u8>, Stop
     requires program { IsProgram (fuses admitted.now.category.rules) admitted.now.category.rules.count (program_of plan.now) }
     ensures { Gives (λ report. report.items) result (rows_of (named_draft admitted.now.names admitted.now.category) (program_of plan.now)) }
 {
-    let rows = match runner::run(alloc, &admitted.category, plan) {
-        Ok(rows) => rows,
-        Err(RunFault::Stop(stop)) => return Err(stop_line(alloc, stop)),
-        Err(RunFault::Memory) => return Err(Stop::Memory),
-    };
-    let mut out = Vec::new(alloc);
-    match report(alloc, &admitted.names, &rows, &mut out) {
-        Ok(()) => Ok(out),
-        Err(_) => Err(Stop::Memory),
-    }
+    outcomes(
+        alloc,
+        &admitted.names,
+        runner::run(alloc, &admitted.category, plan),
+    )
 }

@@ -14,8 +14,6 @@ use std::alloc::Global;
 pub enum Kind {
     Category,
     Program,
-    /// A program that `comb` reads.
-    CombProgram,
 }
 
 impl Kind {
@@ -25,7 +23,7 @@ impl Kind {
     {
         match self {
             Kind::Category => "category",
-            Kind::Program | Kind::CombProgram => "program",
+            Kind::Program => "program",
         }
     }
 }
