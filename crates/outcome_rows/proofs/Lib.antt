@@ -2,3 +2,4 @@ pub mod OutcomeLemmas
 pub mod PartLemmas
 pub mod ProgramLemmas
 pub mod RowLemmas
+mod Worked

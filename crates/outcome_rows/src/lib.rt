@@ -13,3 +13,6 @@ mod rows;
 
 pub use commands::text_commands;
 pub use rows::{Row, Rows, rows_of_words, text_outcomes};
+
+#[cfg(test)]
+mod tests;

@@ -1,5 +1,5 @@
-use Rattle.std.proofs.Common.{◌+◌, ◌∙◌, length, ap, sym, subst, Err, arith}
-use Rattle.word_runs.specs.Lives.{AreOf, lives_of}
+use Rattle.std.proofs.Common.{◌+◌, ◌∙◌, length, ap, sym, Err, arith}
+use Rattle.word_runs.specs.Lives.{lives_of}
 use Rattle.word_runs.specs.declared.fault.RunFault.TheVariants.{Stop}
 use Rattle.word_runs.specs.declared.fault.RunStop.TheVariants.{Overflow}
 use Rattle.outcome_rows.specs.Evaluated.{rows_at, rows_from}

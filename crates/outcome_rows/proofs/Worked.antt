@@ -1,0 +1,55 @@
+-- Worked values, on two qubits and on numbers, and one run that meets every premise of the law of outcomes.
+use Rattle.std.proofs.Common.{◌≡◌, ℕ, ◌+◌, [], ◌∷◌, Option, Some, None, refl, arith}
+use Rattle.std.specs.Prelude.{if◌then◌else◌, ◌==◌, Ok, Err}
+use Rattle.comb_laws.specs.Plans.{Outcomes}
+use Rattle.word_runs.specs.declared.fault.RunStop.TheVariants.{Overflow}
+use Rattle.run_laws.specs.TwoQubits.{Pair, stands, two_acts, two_faithful, two_nought, two_rising, two_shapes, two_told, two_weighing, two_weight}
+use Rattle.run_laws.specs.Turns.{in_text}
+use Rattle.run_laws.proofs.Worked.{sites, start}
+use Rattle.outcome_rows.specs.Commands.{AreRunnable}
+use Rattle.outcome_rows.specs.Evaluated.{evaluation_of, rows_at}
+use Rattle.outcome_rows.specs.Outcomes.{outcomes_of_plan}
+use Rattle.outcome_rows.proofs.OutcomeLemmas.{ends_in_outcomes}
+
+abbrev begun : Pair
+begun = record { gap = 2; vector = start }
+
+abbrev weigh : Pair → Option ℕ
+weigh s = Some (two_weight s.vector)
+
+-- the first qubit is turned over and measured, and the second is turned over where the outcome was 1, and measured: of
+-- (2 + 3) 5 the word 00 has 3 times 5, and 11 has 2 times 5
+abbrev found : Outcomes ℕ
+found = record { total = 25; rows = (0 ∷ 0 ∷ [], 15) ∷ (1 ∷ 1 ∷ [], 10) ∷ [] }
+
+evaluated : evaluation_of two_told weigh (λ x. x == 0) begun (in_text sites) ≡ Ok found
+evaluated = refl
+
+runnable : AreRunnable two_told (in_text sites)
+runnable = record {
+  gaps = (record { low = omega arith; high = omega arith }, (record { low = omega arith; high = omega arith }, (record { low = omega arith; high = omega arith }, (record { low = omega arith; high = omega arith }, (record { low = omega arith; high = omega arith }, tt)))));
+  tests = (tt, (tt, (tt, (omega arith, (tt, tt)))));
+  few = omega arith;
+  timely = refl;
+}
+
+-- so the law speaks of it
+of_the_plan : found ≡ outcomes_of_plan 2 two_acts two_weight (λ x. x == 0) (in_text sites) start
+of_the_plan =
+    ends_in_outcomes two_told 2 two_acts (λ v. Unit {0}) two_nought stands weigh two_weight (λ x. x == 0) two_shapes two_faithful two_weighing
+    two_rising (in_text sites) begun start found runnable.gaps runnable.timely tt refl evaluated
+
+-- a total that doesn't fit stops in turn 0, and a word's weight behind the five turns
+total_too_large : evaluation_of two_told (λ s. if s.gap == 2 then None else weigh s) (λ x. x == 0) begun (in_text sites) ≡ Err (Overflow 0)
+total_too_large = refl
+
+weight_too_large : evaluation_of two_told (λ s. if s.gap == 3 then None else weigh s) (λ x. x == 0) begun (in_text sites) ≡ Err (Overflow 6)
+weight_too_large = refl
+
+-- a weight that is zero makes no row, and one that doesn't fit none at all
+no_zero_row : rows_at (λ x. Some (x + 1)) (λ x. x == 5) (record { word = 0 ∷ []; state = 7 } ∷ record { word = 1 ∷ []; state = 4 } ∷ record { word = 2 ∷ []; state = 0 } ∷ [])
+    ≡ Some ((0 ∷ [], 8) ∷ (2 ∷ [], 1) ∷ [])
+no_zero_row = refl
+
+one_too_large : rows_at (λ x. if x == 4 then None else Some x) (λ x. x == 0) (record { word = 0 ∷ []; state = 7 } ∷ record { word = 1 ∷ []; state = 4 } ∷ []) ≡ None
+one_too_large = refl
