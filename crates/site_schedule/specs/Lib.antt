@@ -1,0 +1,5 @@
+pub mod Queues
+pub mod Legal
+pub mod Reading
+pub mod Answers
+pub mod Spelled
