@@ -21,13 +21,26 @@ pub(crate) fn place<R: StarRing>(
     ensures ok { OnOk result (amplitudes_in entries.new.items ≡ insert_entry key_cmp (amplitudes_in entries.old.items) entry.key.items entry.value.value) }
     ensures err { OnErr result (entries.new.items ≡ entries.old.items) }
 {
-    match find(entries, &entry.key) {
+    match find_from_end(entries, &entry.key) {
         Ok(at) => {
             entries[at] = entry;
             Ok(())
         }
         Err(at) => Ok(entries.insert(at, entry)?),
     }
+}
+
+/// The place of a key among entries in order, or where it would go, with no search where that is behind all of them.
+fn find_from_end<R: StarRing>(entries: &[Entry<R>], key: &Key) -> Result<usize, usize>
+    requires { IsStrictlySortedBy key_cmp (keys_of (amplitudes_in entries.now)) }
+    ensures found { IfOk result (IsAt (amplitudes_in entries.now) key.now.items) }
+    ensures absent { IfErr result (IsGap (amplitudes_in entries.now) key.now.items) }
+{
+    let end = entries.len();
+    if end > 0 && entries[end - 1].key.cmp(key).is_lt() {
+        return Err(end);
+    }
+    find(entries, key)
 }
 
 /// The place of a key among entries in order, or where it would go.

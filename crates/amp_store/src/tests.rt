@@ -54,6 +54,7 @@ fn amplitudes_in_the_order_of_keys(rt: HostRuntime) -> Result<(), Fail> {
     assert!(rt; are(&amps, &[(0, 2, 7), (1, 0, 4), (2, 1, -3)]));
     amps.in_order();
     assert_eq!(rt; amps.empty().len(), 0);
+    assert_eq!(rt; Amps::<Whole>::new(amps.allocator()).len(), 0);
     Ok(())
 }
 

@@ -11,9 +11,8 @@ pub(crate) fn copy_of(key: &Key) -> Key
     ensures { result.items ≡ key.now.items }
 {
     let mut copied = Key::new();
-    for label in key.as_slice() {
-        copied.push(*label);
-    }
+    // There is room, since both hold as much.
+    let _ = copied.try_extend_from_slice(key.as_slice());
     copied
 }
 

@@ -62,27 +62,27 @@ fn raise_term<R: StarRing>(
     amps: &Amps<R>,
     key: &Key,
     t: u8,
-    sum: &R::Elem,
+    sum: R::Elem,
 ) -> Result<R::Elem, Overflow>
     requires rotation { IsRotation (length strands.now) rotation.now }
     requires strands { All (λ s. s < category.now.rules.count) strands.now }
     requires amps { AreOver (R.ring category.now.ring) category.now.rules.count (length strands.now) amps.now }
     requires key { IsKey category.now.rules.count (length strands.now) key.now.items }
     requires label { t < category.now.rules.count }
-    requires sum { IsTrue ((R.ring category.now.ring).member sum.now) }
+    requires sum { IsTrue ((R.ring category.now.ring).member sum) }
     ensures value { let c = symbols R.StarRing category.now in
-        Gives result (raise_step c strands.now rotation.now (amplitude_of c.ring amps.now) key.now.items t sum.now) }
+        Gives result (raise_step c strands.now rotation.now (amplitude_of c.ring amps.now) key.now.items t sum) }
     ensures member { IfOk result (λ z. IsTrue ((R.ring category.now.ring).member z)) }
 {
     let at = index_of(strands, rotation, key, t);
     if !at.is_admissible(category.rules()) {
-        return Ok(category.ring().copy(sum));
+        return Ok(sum);
     }
     let Some(old) = amps.get(&before(key, rotation, t)) else {
-        return Ok(category.ring().copy(sum));
+        return Ok(sum);
     };
     let factor = factor_at(category, rotation, &at);
-    add_product(category.ring(), sum, &factor, old)
+    add_product(category.ring(), &sum, &factor, old)
 }
 
 /// F at an index where the node was a left child, else H.
@@ -119,7 +119,7 @@ pub(crate) fn raised_at<R: StarRing>(
 {
     let mut sum = category.ring().zero();
     for t in 0..category.rules().count() {
-        sum = raise_term(category, strands, rotation, amps, key, t, &sum)?;
+        sum = raise_term(category, strands, rotation, amps, key, t, sum)?;
     }
     Ok(sum)
 }

@@ -26,7 +26,7 @@ returns-clause-value g c =
       d = c.index_of-at.ensures.d;
       e = c.index_of-at.ensures.e;
       f = c.index_of-at.ensures.f;
-    }) c.in-Some.old.now c.factor_at-factor.result c.args.sum.now there (c.in-Some.ensures.nonzero c.in-Some.old.now (sym c.in-Some.ensures.value)) ok c.factor_at-factor.ensures.value in
+    }) c.in-Some.old.now c.factor_at-factor.result c.args.sum there (c.in-Some.ensures.nonzero c.in-Some.old.now (sym c.in-Some.ensures.value)) ok c.factor_at-factor.ensures.value in
     subst (Gives c.add_product.result)
-    (ap (λ (b : g.row.R.Denot). add_product_at (g.R.StarRing.ring b) c.args.sum.now c.factor_at-factor.result c.in-Some.old.now) c.ring-2.ensures ∙ sym step)
+    (ap (λ (b : g.row.R.Denot). add_product_at (g.R.StarRing.ring b) c.args.sum c.factor_at-factor.result c.in-Some.old.now) c.ring.ensures ∙ sym step)
     c.add_product.ensures.value
