@@ -1,5 +1,5 @@
 -- What the reports of runs tell of the texts that they were made from.
-use Rattle.std.proofs.Common.{◌≡◌, ℕ, List, Bool, true, false, if◌then◌else◌, Option, Some, Result, Ok, Err, refl, sym, ap, subst, ◌∙◌}
+use Rattle.std.proofs.Common.{◌≡◌, ℕ, List, map, Bool, true, false, if◌then◌else◌, Option, Some, Result, Ok, Err, refl, sym, ap, subst, ◌∙◌}
 use Rattle.io_ports.specs.Ports.{Files}
 use Rattle.cyclo_core.specs.Ratio.{Ratio}
 use Rattle.symbol_table.specs.Laws.{IsLawful}
@@ -14,19 +14,21 @@ use Rattle.word_runs.specs.declared.fault.RunStop.{RunStop}
 use Rattle.word_runs.specs.declared.fault.RunStop.TheVariants.{Overflow, Branches, Wide}
 use Rattle.comb_laws.specs.Plans.{Outcomes, outcomes_of}
 use Rattle.comb_run.specs.Evaluated.{evaluation_of}
-use Rattle.runner.specs.Evaluated as trees
+use Rattle.runner.specs.Evaluated.{scheduled_weights}
+use Rattle.site_schedule.specs.declared.fault.ScheduleFault.{ScheduleFault}
+use Rattle.site_schedule.specs.declared.fault.ScheduleFault.TheVariants as schedule
+use Rattle.site_schedule.specs.Reading.{schedule_of}
 use Rattle.outcome_report.specs.Report.{report_of}
-use Rattle.anyon_app.specs.declared.texts.Kind.TheVariants.{Category, Program as ProgramText}
+use Rattle.anyon_app.specs.declared.texts.Kind.TheVariants.{Category, Program as ProgramText, Schedule}
 use Rattle.anyon_app.specs.Replies.{Reply, done}
-use Rattle.anyon_app.specs.Refusals.{comb_start_line, program_line, stop_line, too_long}
+use Rattle.anyon_app.specs.Refusals.{comb_start_line, program_line, schedule_line, stop_line, too_long}
 use Rattle.anyon_app.specs.Work.{Work, Says, reply_of, judged}
 use Rattle.anyon_app.specs.Categories.{named_of}
 use Rattle.anyon_app.specs.Verdicts.{category_verdict, symbols_in, unless}
-use Rattle.anyon_app.specs.Programs.{admitted_work, planned_work, program_of_text, program_or, report_or}
+use Rattle.anyon_app.specs.Programs.{admitted_work, planned_work, program_of_text, program_or, report_or, scheduled_work, turns_of_program, turns_of_text, turns_or}
 use Rattle.anyon_app.specs.Comb.{comb_work, rows_of, start_line}
-use Rattle.anyon_app.specs.Run.{run_work}
-use Rattle.anyon_app.specs.Run as run
-use Rattle.anyon_app.specs.Trees.{trees_work, states_of}
+use Rattle.anyon_app.specs.Run.{run_work, run_by_work, rows_work}
+use Rattle.anyon_app.specs.Trees.{trees_work, trees_by_work, states_work}
 use Rattle.anyon_app.specs.Laws.{IsCategoryText, IsProgramText, HasLawfulText, HasRows, FinishedIsLawful, ReportAlike, ReportsRows}
 use Rattle.anyon_app.proofs.LawLemmas.{WasRead, category_is, has_lawful, limited_apart, no_category, refused_apart, some_same, too_long_apart, undecided, was_read}
 
@@ -83,7 +85,7 @@ stop_apart (Branches turn count) report e = limited_apart _ report e
 stop_apart (Wide turn entries) report e = limited_apart _ report e
 
 -- where the evaluation ends, the report is that of the outcomes
-reported : (names : List (List ℕ)) (outcomes : Outcomes Ratio) (stated : Result (Outcomes Ratio) RunStop) (files : Files) (report : List ℕ)
+reported : {A : Type 0} (names : List (List ℕ)) (outcomes : Outcomes Ratio) (stated : Result A RunStop) (files : Files) (report : List ℕ)
     → reply_of (judged (report_or names outcomes stated) (λ r. Says (done r))) files ≡ Some (done report) → report ≡ report_of names outcomes
 reported names outcomes (Ok evaluated) files report went = ap (λ (r : Reply). r.bytes) (sym (some_same _ (done report) went))
 reported names outcomes (Err stop) files report went = absurd (stop_apart stop report (some_same _ (done report) went))
@@ -94,18 +96,64 @@ started : (b : Bool) (next : Unit {0} → Work) (files : Files) (report : List �
 started true next files report went = went
 started false next files report went = absurd (refused_apart _ report (some_same _ (done report) went))
 
+-- a fault of a schedule is no report
+schedule_apart : (sites : List (List ℕ)) (fault : ScheduleFault) (report : List ℕ) → schedule_line sites fault ≡ done report → ⊥
+schedule_apart sites (schedule.Line why) report e = refused_apart _ report e
+schedule_apart sites (schedule.Header line) report e = refused_apart _ report e
+schedule_apart sites (schedule.UnknownSite turn) report e = refused_apart _ report e
+schedule_apart sites (schedule.TooMany turn) report e = refused_apart _ report e
+schedule_apart sites (schedule.Early turn) report e = refused_apart _ report e
+schedule_apart sites (schedule.Unfinished site) report e = refused_apart _ report e
+schedule_apart sites schedule.Memory report e = refused_apart _ report e
+
+no_schedule : (plan : Program) (r : Result (List ℕ) ScheduleFault) (reply : Reply) (report : List ℕ) → turns_or plan r ≡ Err reply → reply ≡ done report → ⊥
+no_schedule plan (Ok turns) reply report is e = absurd cc
+no_schedule plan (Err fault) reply report is e =
+    let same : schedule_line (map (λ site. site.name) plan.sites) fault ≡ reply = cc in
+    schedule_apart (map (λ site. site.name) plan.sites) fault report (same ∙ e)
+
+-- What was read of the schedule.
+record WasScheduled (next : List ℕ → Work) (files : Files) (report : List ℕ) : Type 0 where
+  turns : List ℕ
+  went : reply_of (next turns) files ≡ Some (done report)
+
+was_scheduled : (plan : Program) (next : List ℕ → Work) (files : Files) (name report : List ℕ) → reply_of (scheduled_work name plan next) files ≡ Some (done report) → WasScheduled next files report
+was_scheduled plan next files name report went =
+    let read = was_read (too_long Schedule) (turns_of_text plan) next files name report
+    (λ other e. refused_apart _ other e) (λ text reply is e. no_schedule plan (schedule_of plan text) reply report is e) went in
+    record { turns = read.value; went = read.went }
+
+-- rows by any turns
+rows_reported : (named : NamedSymbols) (plan : Program) (turns : List ℕ) (files : Files) (report : List ℕ) → reply_of (rows_work named plan turns) files ≡ Some (done report)
+    → report ≡ report_of named.names (outcomes_of (symbols_in named) plan.start (commands_in plan.sites))
+rows_reported named plan turns files report went =
+    reported named.names (outcomes_of (symbols_in named) plan.start (commands_in plan.sites)) (scheduled_weights (symbols_in named) plan turns) files report went
+
 pub run_reports : ReportsRows run_work
 unfolding run_work
 run_reports files category program report went =
-    let first = was_admitted (λ named. planned_work program named (λ plan. judged (run.rows_of named plan) (λ r. Says (done r)))) files category report went in
-    let second = was_planned first.named (λ plan. judged (run.rows_of first.named plan) (λ r. Says (done r))) files program report first.went in
+    let first = was_admitted (λ named. planned_work program named (λ plan. rows_work named plan (turns_of_program plan))) files category report went in
+    let second = was_planned first.named (λ plan. rows_work first.named plan (turns_of_program plan)) files program report first.went in
     record {
       named = first.named;
       plan = second.plan;
       category_is = first.is;
       program_is = second.is;
-      report_is = reported first.named.names (outcomes_of (symbols_in first.named) second.plan.start (commands_in second.plan.sites))
-          (trees.evaluation_of (symbols_in first.named) second.plan.start (commands_in second.plan.sites)) files report second.went;
+      report_is = rows_reported first.named second.plan (turns_of_program second.plan) files report second.went;
+    }
+
+pub run_by_reports : (schedule : List ℕ) → ReportsRows (λ category program. run_by_work category program schedule)
+unfolding run_by_work
+run_by_reports schedule files category program report went =
+    let first = was_admitted (λ named. planned_work program named (λ plan. scheduled_work schedule plan (rows_work named plan))) files category report went in
+    let second = was_planned first.named (λ plan. scheduled_work schedule plan (rows_work first.named plan)) files program report first.went in
+    let third = was_scheduled second.plan (rows_work first.named second.plan) files schedule report second.went in
+    record {
+      named = first.named;
+      plan = second.plan;
+      category_is = first.is;
+      program_is = second.is;
+      report_is = rows_reported first.named second.plan third.turns files report third.went;
     }
 
 pub comb_reports : ReportsRows comb_work
@@ -145,9 +193,9 @@ same_rows files category program one other first second =
     first.report_is
     ∙ ((λ j. report_of (named j).names (outcomes_of (symbols_in (named j)) (plan j).start (commands_in (plan j).sites))) ∙ sym second.report_is)
 
-pub run_and_comb : ReportAlike run_work comb_work
-run_and_comb files category program one other first second =
-    same_rows files category program one other (run_reports files category program one first) (comb_reports files category program other second)
+pub alike : (first second : List ℕ → List ℕ → Work) → ReportsRows first → ReportsRows second → ReportAlike first second
+alike first second rows others files category program one other went gone =
+    same_rows files category program one other (rows files category program one went) (others files category program other gone)
 
 pub comb_lawful : FinishedIsLawful comb_work
 unfolding comb_work
@@ -157,9 +205,19 @@ comb_lawful files category program report went =
 pub run_lawful : FinishedIsLawful run_work
 unfolding run_work
 run_lawful files category program report went =
-    (was_admitted (λ named. planned_work program named (λ plan. judged (run.rows_of named plan) (λ r. Says (done r)))) files category report went).lawful
+    (was_admitted (λ named. planned_work program named (λ plan. rows_work named plan (turns_of_program plan))) files category report went).lawful
+
+pub run_by_lawful : (schedule : List ℕ) → FinishedIsLawful (λ category program. run_by_work category program schedule)
+unfolding run_by_work
+run_by_lawful schedule files category program report went =
+    (was_admitted (λ named. planned_work program named (λ plan. scheduled_work schedule plan (rows_work named plan))) files category report went).lawful
 
 pub trees_lawful : FinishedIsLawful trees_work
 unfolding trees_work
 trees_lawful files category program report went =
-    (was_admitted (λ named. planned_work program named (λ plan. judged (states_of named plan) (λ r. Says (done r)))) files category report went).lawful
+    (was_admitted (λ named. planned_work program named (λ plan. states_work named plan (turns_of_program plan))) files category report went).lawful
+
+pub trees_by_lawful : (schedule : List ℕ) → FinishedIsLawful (λ category program. trees_by_work category program schedule)
+unfolding trees_by_work
+trees_by_lawful schedule files category program report went =
+    (was_admitted (λ named. planned_work program named (λ plan. scheduled_work schedule plan (states_work named plan))) files category report went).lawful

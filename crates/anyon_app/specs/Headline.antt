@@ -8,16 +8,17 @@ use Rattle.io_ports.specs.Ports.{Files, Rose, WhereTold}
 use Rattle.anyon_app.specs.declared.status.Status.{Status}
 use Rattle.anyon_app.specs.declared.status.Status.TheVariants.{Done, Refused, Usage, WriteFault, Limit}
 use Rattle.anyon_app.specs.declared.top.Command.{Command}
-use Rattle.anyon_app.specs.declared.top.Command.TheVariants.{Check, Comb, Format, Run, Trees}
+use Rattle.anyon_app.specs.declared.top.Command.TheVariants.{Check, Comb, Format, Run, RunBy, Trees, TreesBy}
 use Rattle.anyon_app.specs.Replies.{Reply}
 use Rattle.anyon_app.specs.Work.{Work, Says, reply_of, Reaches, Names}
 use Rattle.anyon_app.specs.Check.{check_work}
 use Rattle.anyon_app.specs.Comb.{comb_work}
 use Rattle.anyon_app.specs.Format.{format_work}
-use Rattle.anyon_app.specs.Run.{run_work}
-use Rattle.anyon_app.specs.Trees.{trees_work}
+use Rattle.anyon_app.specs.Run.{run_work, run_by_work}
+use Rattle.anyon_app.specs.Trees.{trees_work, trees_by_work}
 
--- what words of a listed form ask for: `check CAT`, `format CAT`, `comb CAT PROG`, `run CAT PROG` or `trees CAT PROG`
+-- what words of a listed form ask for: `check CAT`, `format CAT`, `comb CAT PROG`, `run CAT PROG`, `trees CAT PROG`,
+-- `run CAT PROG SCHED` or `trees CAT PROG SCHED`
 unfoldable pub command_in : List (List ℕ) → Option Work
 command_in (command ∷ first ∷ []) =
     if bytes_eq command (codes "check") then Some (check_work first) else (if bytes_eq command (codes "format") then Some (format_work first) else None)
@@ -25,6 +26,9 @@ command_in (command ∷ first ∷ second ∷ []) =
     if bytes_eq command (codes "comb") then Some (comb_work first second) else
     (if bytes_eq command (codes "run") then Some (run_work first second) else
     (if bytes_eq command (codes "trees") then Some (trees_work first second) else None))
+command_in (command ∷ first ∷ second ∷ third ∷ []) =
+    if bytes_eq command (codes "run") then Some (run_by_work first second third) else
+    (if bytes_eq command (codes "trees") then Some (trees_by_work first second third) else None)
 command_in words = None
 
 -- what a command asks for
@@ -34,6 +38,8 @@ command_work (Format category) = format_work category.now
 command_work (Comb category program) = comb_work category.now program.now
 command_work (Run category program) = run_work category.now program.now
 command_work (Trees category program) = trees_work category.now program.now
+command_work (RunBy category program schedule) = run_by_work category.now program.now schedule.now
+command_work (TreesBy category program schedule) = trees_by_work category.now program.now schedule.now
 
 -- the reply to words of no listed form
 abbrev pub usage : Reply

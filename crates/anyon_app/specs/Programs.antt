@@ -1,16 +1,20 @@
--- What a program text is to a command that runs one, and the category before it.
-use Rattle.std.specs.Prelude.{ℕ, List, Result, Ok, Err}
+-- What program and schedule texts are to a command that runs one, and the category before them.
+use Rattle.std.specs.Prelude.{ℕ, List, map, Result, Ok, Err}
 use Rattle.cyclo_core.specs.Ratio.{Ratio}
 use Rattle.comb_laws.specs.Plans.{Outcomes}
 use Rattle.word_runs.specs.declared.fault.RunStop.{RunStop}
+use Rattle.run_laws.specs.Turns.{text_order}
+use Rattle.site_schedule.specs.declared.fault.ScheduleFault.{ScheduleFault}
+use Rattle.site_schedule.specs.Legal.{letters_in}
+use Rattle.site_schedule.specs.Reading.{schedule_of}
 use Rattle.outcome_report.specs.Report.{report_of}
 use Rattle.category_text.specs.Named.{NamedSymbols}
 use Rattle.program_text.specs.Grammar.{program_in}
 use Rattle.program_text.specs.Program.{Program}
 use Rattle.program_text.specs.Steps.{Fault}
-use Rattle.anyon_app.specs.declared.texts.Kind.TheVariants.{Category, Program as ProgramText}
+use Rattle.anyon_app.specs.declared.texts.Kind.TheVariants.{Category, Program as ProgramText, Schedule}
 use Rattle.anyon_app.specs.Replies.{Reply}
-use Rattle.anyon_app.specs.Refusals.{program_line, stop_line, too_long}
+use Rattle.anyon_app.specs.Refusals.{program_line, schedule_line, stop_line, too_long}
 use Rattle.anyon_app.specs.Work.{Work, read_work, judged}
 use Rattle.anyon_app.specs.Categories.{named_of}
 use Rattle.anyon_app.specs.Verdicts.{category_verdict, unless}
@@ -32,7 +36,23 @@ program_of_text named text = program_or (program_in named.names named.given.fuse
 abbrev pub planned_work : List ℕ → NamedSymbols → (Program → Work) → Work
 planned_work program named next = read_work (too_long ProgramText) (program_of_text named) program next
 
+-- the turns of a text, or the reply at its first fault
+abbrev pub turns_or : Program → Result (List ℕ) ScheduleFault → Result (List ℕ) Reply
+turns_or plan (Ok turns) = Ok turns
+turns_or plan (Err fault) = Err (schedule_line (map (λ site. site.name) plan.sites) fault)
+
+abbrev pub turns_of_text : Program → List ℕ → Result (List ℕ) Reply
+turns_of_text plan text = turns_or plan (schedule_of plan text)
+
+-- the turns of a text, for a program
+abbrev pub scheduled_work : List ℕ → Program → (List ℕ → Work) → Work
+scheduled_work schedule plan next = read_work (too_long Schedule) (turns_of_text plan) schedule next
+
+-- all turns of the first site, then of the second, and so on
+abbrev pub turns_of_program : Program → List ℕ
+turns_of_program plan = text_order (letters_in plan)
+
 -- the report of these outcomes, unless the evaluation stops
-abbrev pub report_or : List (List ℕ) → Outcomes Ratio → Result (Outcomes Ratio) RunStop → Result (List ℕ) Reply
+abbrev pub report_or : {A : Type 0} → List (List ℕ) → Outcomes Ratio → Result A RunStop → Result (List ℕ) Reply
 report_or names outcomes (Ok evaluated) = Ok (report_of names outcomes)
 report_or names outcomes (Err stop) = Err (stop_line stop)

@@ -1,5 +1,5 @@
 -- The lines of refusals and limits. Labels are written by name, other numbers in decimal digits.
-use Rattle.std.specs.Prelude.{ℕ, List, [], ◌∷◌, codes, decimal}
+use Rattle.std.specs.Prelude.{ℕ, List, [], ◌∷◌, codes, decimal, slice_index_or}
 use Rattle.fusion_rules.specs.declared.rules.RulesFault.{RulesFault}
 use Rattle.fusion_rules.specs.declared.rules.RulesFault.TheVariants.{NotCommutative, NotAssociative, NoSingleDual}
 use Rattle.symbol_table.specs.Laws.{form_of}
@@ -7,7 +7,7 @@ use Rattle.symbol_table.specs.declared.law.Kind.{Kind}
 use Rattle.symbol_table.specs.declared.law.Kind.TheVariants.{Fails, Overflow}
 use Rattle.symbol_table.specs.declared.law.Event.{Event}
 use Rattle.anyon_app.specs.declared.texts.Kind as text
-use Rattle.anyon_app.specs.declared.texts.Kind.TheVariants.{Category, Program}
+use Rattle.anyon_app.specs.declared.texts.Kind.TheVariants.{Category, Program, Schedule}
 use Rattle.category_text.specs.declared.fault.CategoryCause.{CategoryCause}
 use Rattle.word_runs.specs.declared.fault.RunStop.{RunStop}
 use Rattle.outcome_report.specs.Labels.{label_names}
@@ -15,12 +15,15 @@ use Rattle.word_runs.specs.declared.fault.RunStop.TheVariants.{Overflow as TurnO
 use Rattle.anyon_app.specs.Replies.{Reply}
 use Rattle.anyon_app.specs.Lines.{refusal_of, limit_of}
 use Rattle.program_text.specs.declared.fault.ProgramCause.{ProgramCause}
-use Rattle.anyon_app.specs.Causes.{category_cause, program_cause}
+use Rattle.site_schedule.specs.declared.fault.ScheduleFault.{ScheduleFault}
+use Rattle.site_schedule.specs.declared.fault.ScheduleFault.TheVariants as schedule
+use Rattle.anyon_app.specs.Causes.{category_cause, line_cause, program_cause}
 
 -- the word for a text of a kind
 abbrev pub kind_word : text.Kind → List ℕ
 kind_word Category = codes "category"
 kind_word Program = codes "program"
+kind_word Schedule = codes "schedule"
 
 -- a line of a text that its grammar refuses, with the words of its cause
 abbrev pub refused_line : text.Kind → ℕ → List ℕ → Reply
@@ -33,6 +36,20 @@ category_line line cause = refused_line Category line (category_cause cause)
 -- a line of a program text, with its cause
 abbrev pub program_line : ℕ → ProgramCause → Reply
 program_line line cause = refusal_of (kind_word Program ∷ codes "line" ∷ decimal line ∷ program_cause cause)
+
+-- a turn of a schedule that can't be taken
+abbrev pub turn_line : ℕ → List ℕ → Reply
+turn_line turn cause = refusal_of (kind_word Schedule ∷ codes "turn" ∷ decimal turn ∷ cause ∷ [])
+
+-- The first fault of a schedule text of a program with these site names. No text says that memory is wanted.
+abbrev pub schedule_line : List (List ℕ) → ScheduleFault → Reply
+schedule_line sites (schedule.Line fault) = refused_line Schedule fault.line (line_cause fault.cause)
+schedule_line sites (schedule.Header line) = refused_line Schedule line (codes "header")
+schedule_line sites (schedule.UnknownSite turn) = turn_line turn (codes "unknown site")
+schedule_line sites (schedule.TooMany turn) = turn_line turn (codes "too many")
+schedule_line sites (schedule.Early turn) = turn_line turn (codes "early")
+schedule_line sites (schedule.Unfinished site) = refusal_of (kind_word Schedule ∷ codes "unfinished" ∷ slice_index_or sites site [] ∷ [])
+schedule_line sites schedule.Memory = refusal_of (kind_word Schedule ∷ [])
 
 -- a start that isn't left-combed, where the program is to run on left-combed paths
 abbrev pub comb_start_line : Reply

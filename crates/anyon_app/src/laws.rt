@@ -1,12 +1,12 @@
 // What follows from the clauses of the top call, and from the definitions of its replies.
-ghost use Rattle.std.specs.Prelude.{◌≢◌, IsSome};
+ghost use Rattle.std.specs.Prelude.{◌≢◌, ℕ, IsSome, List};
 ghost use Rattle.io_ports.specs.Memory.{files_of};
 ghost use Rattle.anyon_app.specs.Work.{reply_of};
 ghost use Rattle.anyon_app.specs.Headline.{work_of};
 ghost use Rattle.anyon_app.specs.Comb.{comb_work};
 ghost use Rattle.anyon_app.specs.Laws.{AcceptedIsLawful, FinishedIsLawful, FormatSettles, FormattedAlike, LawfulIsAccepted, ReportAlike, ReportsRows};
-ghost use Rattle.anyon_app.specs.Run.{run_work};
-ghost use Rattle.anyon_app.specs.Trees.{trees_work};
+ghost use Rattle.anyon_app.specs.Run.{run_by_work, run_work};
+ghost use Rattle.anyon_app.specs.Trees.{trees_by_work, trees_work};
 
 use crate::{Status, anyon};
 use category_text::canonical_texts;
@@ -37,7 +37,9 @@ pub fn category_replies()
     ensures complete { LawfulIsAccepted }
     ensures finished_comb { FinishedIsLawful comb_work }
     ensures finished_run { FinishedIsLawful run_work }
+    ensures finished_run_by { (schedule : List ℕ) → FinishedIsLawful (λ category program. run_by_work category program schedule) }
     ensures finished_trees { FinishedIsLawful trees_work }
+    ensures finished_trees_by { (schedule : List ℕ) → FinishedIsLawful (λ category program. trees_by_work category program schedule) }
     ensures settled { FormatSettles }
     ensures alike { FormattedAlike }
 {
@@ -45,9 +47,13 @@ pub fn category_replies()
 }
 
 /// What `run` and `comb` write, over the bytes of their texts: the rows of the program by the comb operators in the order
-/// of the text. So where both finish they write the same.
+/// of the text, whatever the schedule. So where two of them finish on the same category and program they write the same:
+/// two schedules, a schedule and the order of the text, trees and left-combed paths.
 pub fn run_replies()
     ensures run { ReportsRows run_work }
+    ensures run_by { (schedule : List ℕ) → ReportsRows (λ category program. run_by_work category program schedule) }
     ensures comb { ReportsRows comb_work }
-    ensures alike { ReportAlike run_work comb_work }
+    ensures schedules { (first second : List ℕ) → ReportAlike (λ category program. run_by_work category program first) (λ category program. run_by_work category program second) }
+    ensures text { (schedule : List ℕ) → ReportAlike run_work (λ category program. run_by_work category program schedule) }
+    ensures engines { ReportAlike run_work comb_work }
 {}

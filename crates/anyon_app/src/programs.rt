@@ -1,5 +1,5 @@
-// The texts of a command that runs a program: a category that is admitted, and the program.
-ghost use Rattle.std.specs.Prelude.{◌≡◌, ◌<◌, ◌-◌, ◌^◌, IfOk, Result, length};
+// The texts of a command that runs a program: a category that is admitted, the program and its schedule.
+ghost use Rattle.std.specs.Prelude.{◌≡◌, ◌<◌, ◌-◌, ◌^◌, IfOk, Ok, Result, length};
 ghost use Rattle.fusion_rules.specs.Fusion.{fuses};
 ghost use Rattle.program_text.specs.Program.{program_of};
 ghost use Rattle.program_text.specs.WellFormed.{IsProgram};
@@ -7,14 +7,15 @@ ghost use Rattle.category_text.specs.Named.{named_draft};
 ghost use Rattle.anyon_app.specs.Stages.{Gives, Passes};
 ghost use Rattle.cyclo_core.specs.Ratio.{Ratio};
 ghost use Rattle.comb_laws.specs.Plans.{Outcomes};
-ghost use Rattle.word_runs.specs.Runs.{Runs};
 ghost use Rattle.word_runs.specs.declared.fault.RunStop.{RunStop as Stops};
+ghost use Rattle.outcome_rows.specs.Ends.{StopsAs};
 ghost use Rattle.outcome_rows.specs.Rows.{outcomes_in};
-ghost use Rattle.anyon_app.specs.Programs.{admitted_work, planned_work, program_of_text, report_or};
+ghost use Rattle.site_schedule.specs.Legal.{IsLegal, IsWellFormed};
+ghost use Rattle.anyon_app.specs.Programs.{admitted_work, planned_work, program_of_text, report_or, scheduled_work, turns_of_program, turns_of_text};
 
 use crate::categories::load_category;
 use crate::judge::{Admitted, judge};
-use crate::refusals::{program_line, stop_line};
+use crate::refusals::{program_line, schedule_line, stop_line};
 use crate::stop::Stop;
 use crate::texts::{Kind, text};
 use cyclo_core::Cyclo;
@@ -23,6 +24,7 @@ use io_ports::Shelf;
 use outcome_report::report;
 use outcome_rows::Rows;
 use program_text::{Plan, ProgramFault, read_program};
+use site_schedule::{Schedule, read_schedule, text_order};
 use std::alloc::Global;
 use word_runs::RunFault;
 
@@ -64,13 +66,53 @@ fn program(alloc: Global, admitted: &Admitted, text: &[u8]) -> Result<Plan, Stop
     }
 }
 
+/// The schedule of a text for a plan.
+pub fn load_schedule<S: Shelf>(
+    alloc: Global,
+    shelf: &mut S,
+    plan: &Plan,
+    name: &str,
+) -> Result<Schedule, Stop>
+    requires { IsWellFormed (program_of plan.now) }
+    ensures passes { Passes S.files S.faults shelf.old shelf.new (λ schedule. schedule.turns.items) (scheduled_work name.now (program_of plan.now)) result }
+    ensures legal { IfOk result (λ schedule. IsLegal (program_of plan.now) schedule.turns.items) }
+{
+    let text = text(alloc, shelf, Kind::Schedule, name)?;
+    schedule(alloc, plan, &text)
+}
+
+// The schedule of these bytes.
+fn schedule(alloc: Global, plan: &Plan, text: &[u8]) -> Result<Schedule, Stop>
+    requires short { length text.now < 2 ^ 32 - 1 }
+    requires well_formed { IsWellFormed (program_of plan.now) }
+    ensures gives { Gives (λ schedule. schedule.turns.items) result (turns_of_text (program_of plan.now) text.now) }
+    ensures legal { IfOk result (λ schedule. IsLegal (program_of plan.now) schedule.turns.items) }
+{
+    match read_schedule(alloc, plan, text) {
+        Ok(schedule) => Ok(schedule),
+        Err(fault) => Err(schedule_line(alloc, &plan.sites, fault)),
+    }
+}
+
+/// The schedule in the order of the text.
+pub fn text_schedule(alloc: Global, plan: &Plan) -> Result<Schedule, Stop>
+    requires { IsWellFormed (program_of plan.now) }
+    ensures gives { Gives (λ schedule. schedule.turns.items) result (Ok (turns_of_program (program_of plan.now))) }
+    ensures legal { IfOk result (λ schedule. IsLegal (program_of plan.now) schedule.turns.items) }
+{
+    match text_order(alloc, plan) {
+        Ok(schedule) => Ok(schedule),
+        Err(_) => Err(Stop::Memory),
+    }
+}
+
 /// The report of a run's outcomes, or the stop where its evaluation stops.
 pub fn outcomes(
     alloc: Global,
     names: &Names,
     ended: Result<Rows<Cyclo>, RunFault>,
 ) -> Result<Vec<u8>, Stop>
-    ensures { (rows : Outcomes Ratio) (stated : Result (Outcomes Ratio) Stops) → Runs outcomes_in ended stated → IfOk ended (λ r. outcomes_in r ≡ rows)
+    ensures { {A : Type 0} → (rows : Outcomes Ratio) (stated : Result A Stops) → StopsAs ended stated → IfOk ended (λ r. outcomes_in r ≡ rows)
         → Gives (λ report. report.items) result (report_or names.now rows stated) }
 {
     let rows = match ended {

@@ -1,7 +1,7 @@
 // The lines of refusals and limits.
-ghost use Rattle.std.specs.Prelude.{◌≡◌, ◌∷◌, IfOk};
+ghost use Rattle.std.specs.Prelude.{◌≡◌, ◌∷◌, IfOk, map, string_bytes};
 ghost use Rattle.anyon_app.specs.Stages.{StopsWith};
-ghost use Rattle.anyon_app.specs.Refusals.{category_line, comb_start_line, event_line, event_words, program_line, refused_line, rules_line, stop_line, too_long};
+ghost use Rattle.anyon_app.specs.Refusals.{category_line, comb_start_line, event_line, event_words, program_line, refused_line, rules_line, schedule_line, stop_line, too_long, turn_line};
 ghost use Rattle.anyon_app.specs.Lines.{line_of};
 
 use crate::causes::{category_words, line_words};
@@ -11,7 +11,8 @@ use category_text::CategoryCause;
 use fusion_rules::{Names, RulesFault};
 use itoa::Buffer;
 use outcome_report::write_labels;
-use program_text::ProgramCause;
+use program_text::{ProgramCause, Site};
+use site_schedule::ScheduleFault;
 use std::alloc::{AllocError, Global};
 use symbol_table::{Event, Kind as EventKind};
 use word_runs::RunStop;
@@ -74,6 +75,45 @@ fn inadmissible_line(alloc: Global, line: u32, gap: u8) -> Stop
         alloc,
         &[Kind::Program.word(), "line", line, "inadmissible", gap],
     )
+}
+
+/// The stop at a turn of a schedule that can't be taken.
+fn turn_line(alloc: Global, turn: u32, cause: &'static str) -> Stop
+    ensures { StopsWith (turn_line turn cause.now) result }
+{
+    let mut buffer = Buffer::new();
+    let turn = buffer.format(turn);
+    refusal(alloc, &[Kind::Schedule.word(), "turn", turn, cause])
+}
+
+/// The stop at a schedule that ends before this site has taken its commands.
+fn unfinished_line(alloc: Global, sites: &[Site], site: u8) -> Stop
+    ensures { StopsWith (schedule_line (map (λ s. string_bytes s.name) sites.now) (ScheduleFault.Unfinished site)) result }
+{
+    match sites.get(site as usize) {
+        Some(site) => refusal(
+            alloc,
+            &[Kind::Schedule.word(), "unfinished", site.name.as_str()],
+        ),
+        None => refusal(alloc, &[Kind::Schedule.word(), "unfinished", ""]),
+    }
+}
+
+/// The stop at the first fault of a schedule text of a program with these sites.
+pub fn schedule_line(alloc: Global, sites: &[Site], fault: ScheduleFault) -> Stop
+    ensures { StopsWith (schedule_line (map (λ s. string_bytes s.name) sites.now) fault) result }
+{
+    match fault {
+        ScheduleFault::Line(fault) => {
+            refused_line(alloc, Kind::Schedule, fault.line, line_words(fault.cause))
+        }
+        ScheduleFault::Header { line } => refused_line(alloc, Kind::Schedule, line, "header"),
+        ScheduleFault::UnknownSite { turn } => turn_line(alloc, turn, "unknown site"),
+        ScheduleFault::TooMany { turn } => turn_line(alloc, turn, "too many"),
+        ScheduleFault::Early { turn } => turn_line(alloc, turn, "early"),
+        ScheduleFault::Unfinished { site } => unfinished_line(alloc, sites, site),
+        ScheduleFault::Memory => Stop::Memory,
+    }
 }
 
 /// The stop at a start that isn't left-combed.

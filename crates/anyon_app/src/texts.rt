@@ -14,6 +14,7 @@ use std::alloc::Global;
 pub enum Kind {
     Category,
     Program,
+    Schedule,
 }
 
 impl Kind {
@@ -24,6 +25,7 @@ impl Kind {
         match self {
             Kind::Category => "category",
             Kind::Program => "program",
+            Kind::Schedule => "schedule",
         }
     }
 }

@@ -9,8 +9,8 @@ ghost use Rattle.anyon_app.specs.Headline.{command_in, command_work, work_of, Is
 use crate::check::check;
 use crate::comb::comb;
 use crate::format::format;
-use crate::run::run;
-use crate::trees::trees;
+use crate::run::{run, run_by};
+use crate::trees::{trees, trees_by};
 use crate::{Status, Stop};
 use io_ports::{Shelf, Sink, put_all};
 use std::alloc::Global;
@@ -82,6 +82,8 @@ enum Command<'a> {
     Comb(&'a str, &'a str),
     Run(&'a str, &'a str),
     Trees(&'a str, &'a str),
+    RunBy(&'a str, &'a str, &'a str),
+    TreesBy(&'a str, &'a str, &'a str),
 }
 
 #[tactic(auto, unfolding(crate::specs::Headline::command_in, crate::specs::Headline::command_work))]
@@ -105,6 +107,14 @@ fn command_of(words: &[String]) -> Option<Command<'_>>
         [command, category, program] if command.as_str() == "trees" => {
             Some(Command::Trees(category.as_str(), program.as_str()))
         }
+        [command, category, program, schedule] if command.as_str() == "run" => {
+            let (category, program) = (category.as_str(), program.as_str());
+            Some(Command::RunBy(category, program, schedule.as_str()))
+        }
+        [command, category, program, schedule] if command.as_str() == "trees" => {
+            let (category, program) = (category.as_str(), program.as_str());
+            Some(Command::TreesBy(category, program, schedule.as_str()))
+        }
         _ => None,
     }
 }
@@ -119,6 +129,12 @@ fn work<S: Shelf>(alloc: Global, command: Command<'_>, shelf: &mut S) -> Result<
         Command::Comb(category, program) => comb(alloc, shelf, category, program),
         Command::Run(category, program) => run(alloc, shelf, category, program),
         Command::Trees(category, program) => trees(alloc, shelf, category, program),
+        Command::RunBy(category, program, schedule) => {
+            run_by(alloc, shelf, category, program, schedule)
+        }
+        Command::TreesBy(category, program, schedule) => {
+            trees_by(alloc, shelf, category, program, schedule)
+        }
     }
 }
 

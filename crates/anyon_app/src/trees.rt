@@ -1,4 +1,4 @@
-// The command `trees CAT PROG`.
+// The commands `trees CAT PROG` and `trees CAT PROG SCHED`.
 ghost use Rattle.std.specs.Prelude.{◌≡◌, IfOk};
 ghost use Rattle.fusion_rules.specs.Fusion.{fuses};
 ghost use Rattle.program_text.specs.Program.{program_of};
@@ -6,10 +6,11 @@ ghost use Rattle.program_text.specs.WellFormed.{IsProgram};
 ghost use Rattle.category_text.specs.Named.{named_draft};
 ghost use Rattle.word_runs.specs.Lives.{lives_of};
 ghost use Rattle.anyon_app.specs.Stages.{Gives, Worked};
-ghost use Rattle.anyon_app.specs.Trees.{ends_report, states_of, trees_work};
+ghost use Rattle.site_schedule.specs.Legal.{IsLegal};
+ghost use Rattle.anyon_app.specs.Trees.{ends_report, states_of, trees_by_work, trees_work};
 
 use crate::judge::Admitted;
-use crate::programs::{load_admitted, load_program};
+use crate::programs::{load_admitted, load_program, load_schedule, text_schedule};
 use crate::refusals::stop_line;
 use crate::stop::Stop;
 use cyclo_core::Cyclo;
@@ -18,6 +19,7 @@ use io_ports::Shelf;
 use outcome_report::tree_report;
 use program_text::Plan;
 use recouple::TreeState;
+use site_schedule::Schedule;
 use std::alloc::{AllocError, Global};
 use word_runs::{LiveWord, RunFault};
 
@@ -33,15 +35,38 @@ pub fn trees<S: Shelf>(
 {
     let admitted = load_admitted(alloc, shelf, category)?;
     let plan = load_program(alloc, shelf, &admitted, program)?;
-    states(alloc, &admitted, &plan)
+    let schedule = text_schedule(alloc, &plan)?;
+    states(alloc, &admitted, &plan, &schedule)
+}
+
+/// The same by the turns of a schedule, which is read last.
+pub fn trees_by<S: Shelf>(
+    alloc: Global,
+    shelf: &mut S,
+    category: &str,
+    program: &str,
+    schedule: &str,
+) -> Result<Vec<u8>, Stop>
+    ensures { Worked S.files S.faults shelf.old shelf.new (trees_by_work category.now program.now schedule.now) result }
+{
+    let admitted = load_admitted(alloc, shelf, category)?;
+    let plan = load_program(alloc, shelf, &admitted, program)?;
+    let schedule = load_schedule(alloc, shelf, &plan, schedule)?;
+    states(alloc, &admitted, &plan, &schedule)
 }
 
 // The report of the live words.
-fn states(alloc: Global, admitted: &Admitted, plan: &Plan) -> Result<Vec<u8>, Stop>
+fn states(
+    alloc: Global,
+    admitted: &Admitted,
+    plan: &Plan,
+    schedule: &Schedule,
+) -> Result<Vec<u8>, Stop>
     requires program { IsProgram (fuses admitted.now.category.rules) admitted.now.category.rules.count (program_of plan.now) }
-    ensures { Gives (λ report. report.items) result (states_of (named_draft admitted.now.names admitted.now.category) (program_of plan.now)) }
+    requires legal { IsLegal (program_of plan.now) schedule.now.turns.items }
+    ensures { Gives (λ report. report.items) result (states_of (named_draft admitted.now.names admitted.now.category) (program_of plan.now) schedule.now.turns.items) }
 {
-    let ends = match runner::trees(alloc, &admitted.category, plan) {
+    let ends = match runner::trees(alloc, &admitted.category, plan, schedule) {
         Ok(ends) => ends,
         Err(RunFault::Stop(stop)) => return Err(stop_line(alloc, stop)),
         Err(RunFault::Memory) => return Err(Stop::Memory),

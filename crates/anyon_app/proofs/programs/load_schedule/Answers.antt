@@ -1,0 +1,15 @@
+use Rattle.std.proofs.lemmas.Result.{err_from_is_err_and}
+use Rattle.program_text.specs.Program.{program_of}
+use Rattle.anyon_app.specs.declared.texts.Kind.TheVariants.{Schedule}
+use Rattle.anyon_app.specs.Refusals.{too_long}
+use Rattle.anyon_app.specs.Programs.{turns_of_text}
+use Rattle.anyon_app.proofs.StageLemmas.{read_passes}
+use Rattle.anyon_app.proofs.programs.load_schedule.Goals as goal
+
+pub returns-in_err-text-clause-passes : goal.returns-in_err-text-clause-passes
+returns-in_err-text-clause-passes g c =
+    let p = err_from_is_err_and c.from_residual.result c.from_residual.ensures.1 in
+    rw (p.1, p.2) record { stopped = λ next. c.in_err-text.ensures.passes.stopped _; passed = tt }
+
+pub returns-clause-passes : goal.returns-clause-passes
+returns-clause-passes g c = read_passes _ _ _ _ (too_long Schedule) c.args.name.now _ (turns_of_text (program_of c.args.plan.now)) _ _ c.in_ok-text.ensures.passes (rw c.deref.ensures.value at c.schedule.ensures.gives)
