@@ -19,9 +19,13 @@ shape_text (Branch l r) i = 40 ∷ (shape_text l i ++ 32 ∷ (shape_text r (i + 
 abbrev pub amp_words : List (List ℕ) → List ℕ × Ratio → List (List ℕ)
 amp_words names amp = codes "amp" ∷ label_names names amp.0 ++ spelled_number amp.1 ∷ []
 
+-- the words of the line of a live word: its outcomes
+abbrev pub word_words : List (List ℕ) → List ℕ → List (List ℕ)
+word_words names word = codes "word" ∷ label_names names word
+
 -- the lines of a live word: its outcomes, and then its amplitudes
 abbrev pub live_lines : List (List ℕ) → Live (State Ratio) → List (List (List ℕ))
-live_lines names live = (codes "word" ∷ label_names names live.word) ∷ map (amp_words names) live.state.amps
+live_lines names live = word_words names live.word ∷ map (amp_words names) live.state.amps
 
 -- the two lines of what all live words share: the labels of the strands, and the shape
 abbrev pub head_lines : List (List ℕ) → State Ratio → List (List (List ℕ))

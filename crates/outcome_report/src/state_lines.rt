@@ -74,7 +74,8 @@ fn extend_live(
     ensures { Extends result out.old.items out.new.items (spelled (live_lines names.now (live_of (λ s. s) live.now))) }
 {
     extend_label_line(b"word", names, &live.word, out)?;
-    extend_amps(alloc, names, live.state.amps(), out)
+    extend_amps(alloc, names, live.state.amps(), out)?;
+    Ok(())
 }
 
 /// Appends the lines of amplitudes.
