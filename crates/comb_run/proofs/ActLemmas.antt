@@ -25,7 +25,7 @@ kept_some {E} h p v e = pick (h.is_zero p) refl e
     pick false is same = (cc, is)
 
 module _ {E : Type 0} (c : Symbols E) (laws : RingLaws c.ring c.held) (strands after : List ℕ) (k : ℕ) where
-  pub acted_is : (kernel : Kernel E) (v : Vector E) (x : Path) → IsTrue (c.ring.member (acted c strands after k kernel v x))
+  acted_is : (kernel : Kernel E) (v : Vector E) (x : Path) → IsTrue (c.ring.member (acted c strands after k kernel v x))
   acted_is kernel v x = pick (is_path c after x)
     where
       pick : (b : Bool) → IsTrue (c.ring.member (if b then total c.ring c.count (term_at c strands k kernel v x) else c.ring.zero))

@@ -3,7 +3,7 @@ use Rattle.std.proofs.Common.{◌≡◌, ℕ, zero, suc, ◌+◌, ◌<◌, ◌�
 use Rattle.std.specs.Prelude.{Err, false, get_or, slice_get}
 use Rattle.std.proofs.lemmas.List.{length-map}
 use Rattle.line_text.specs.Text.{Found, Counted, words_of}
-use Rattle.program_text.specs.Letters.{letters, measurements, outcomes_of}
+use Rattle.program_text.specs.Letters.{letters, measurements}
 use Rattle.program_text.specs.Program.{Program, ProgramSite, program_of, site_of}
 use Rattle.program_text.specs.Steps.{◌>>=◌}
 use Rattle.program_text.specs.WellFormed.{commands_in}
@@ -23,6 +23,7 @@ use Rattle.site_schedule.specs.Answers.{Fails, IsBehind, Told}
 use Rattle.site_schedule.specs.Legal.{letters_in}
 use Rattle.site_schedule.specs.Queues.{AreMarks, all_left, left_behind, letters_left}
 use Rattle.site_schedule.specs.Reading.{Word, known_behind, said_in, turn_named, turn_on, turns_on}
+use Rattle.site_schedule.proofs.QueueLemmas.{length_letters}
 use Rattle.site_schedule.proofs.LegalLemmas.{bind_ok, ok_same, turns_append}
 use Rattle.site_schedule.proofs.TurnLemmas.{known_next, left_more, one_taken}
 
@@ -42,10 +43,6 @@ behind_next p old new site l is e left count marks turns =
           let all = is.few in
           omega (arith, less, there, more, all));
     }
-
-length_letters : (p : ℕ) (cs : List Command) → length (letters p cs) ≡ length cs
-length_letters p [] = refl
-length_letters p (c ∷ cs) = ap suc (length_letters (p + outcomes_of c) cs)
 
 -- as many letters as commands
 length_text : (p : ℕ) (sites : List ProgramSite) → length (in_text (site_letters p (commands_of sites))) ≡ length (commands_in sites)

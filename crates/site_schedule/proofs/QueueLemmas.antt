@@ -21,10 +21,6 @@ abbrev pub first_of : {A : Type 0} → List A → Option A
 first_of [] = None
 first_of (a ∷ tail) = Some a
 
-abbrev pub rest_of : {A : Type 0} → List A → List A
-rest_of [] = []
-rest_of (a ∷ tail) = tail
-
 -- The sites are seen as lists: what a turn does at a place.
 module _ {Q A : Type 0} (view : Q → List A) where
   pub next_at : (qs : List Q) (i : ℕ) (d : Q) → i < length qs → next_of i (map view qs) ≡ first_of (view (get_or qs i d))
@@ -80,7 +76,7 @@ measured_few (c ∷ cs) =
     omega arith
 
 -- text order goes by how many commands there are
-length_letters : (p : ℕ) (cs : List Command) → length (letters p cs) ≡ length cs
+pub length_letters : (p : ℕ) (cs : List Command) → length (letters p cs) ≡ length cs
 length_letters p [] = refl
 length_letters p (c ∷ cs) = ap suc (length_letters (p + outcomes_of c) cs)
 

@@ -1,5 +1,5 @@
 -- Worked values of the definitions: sites A and B of two commands each, where B tests the outcome of A.
-use Rattle.std.proofs.Common.{◌≡◌, [], ◌∷◌, Some, None, refl, codes}
+use Rattle.std.proofs.Common.{◌≡◌, [], ◌∷◌, Some, None, refl, codes, arith, inr, true}
 use Rattle.std.specs.Prelude.{Ok, Err}
 use Rattle.line_text.specs.declared.fault.LineCause.TheVariants.{NotAscii}
 use Rattle.tree_shapes.specs.Labelled.{Strand, Joined}
@@ -8,9 +8,13 @@ use Rattle.program_text.specs.declared.plan.Command.TheVariants.{Raise, Measure,
 use Rattle.program_text.specs.declared.plan.Sign.TheVariants.{Plus}
 use Rattle.program_text.specs.declared.letter.Letter.TheVariants.{Charge, Tested, Still}
 use Rattle.site_schedule.specs.declared.fault.ScheduleFault.TheVariants.{Line, Header, UnknownSite, TooMany, Early, Unfinished}
-use Rattle.site_schedule.specs.Legal.{letters_in}
+use Rattle.site_schedule.specs.Legal.{IsLegal, IsWellFormed, letters_in}
 use Rattle.site_schedule.specs.Queues.{first_left, left_behind}
 use Rattle.site_schedule.specs.Reading.{site_from, schedule_of}
+use Rattle.site_schedule.specs.Spelled.{schedule_lines}
+use Rattle.site_schedule.proofs.LegalLemmas.{schedule_legal}
+use Rattle.site_schedule.proofs.SpelledLemmas.{schedules_again}
+use Rattle.line_text.specs.Spelling.{spelled}
 
 abbrev two : Program
 two = record {
@@ -88,3 +92,31 @@ behind_turns = refl
 before_own : schedule_of two (codes "schedule 1\nA A\n\nC \t\n") ≡ Err (Line (record { line = 4; cause = NotAscii }))
 unfolding schedule_of
 before_own = refl
+
+-- all that is asked of a program and a schedule holds of these
+two_well_formed : IsWellFormed two
+two_well_formed = record {
+  fuse = λ a b c. true;
+  count = 2;
+  program = record {
+    version = inr refl;
+    start = record { some = omega arith; few = omega arith; labels = refl; admissible = refl };
+    some = omega arith;
+    sites = (
+      record { name = refl; some = omega arith; order = omega arith; inside = omega arith; gaps = ((omega arith, omega arith), ((omega arith, omega arith), tt)) },
+      refl,
+      (record { name = refl; some = omega arith; order = omega arith; inside = omega arith; gaps = ((omega arith, omega arith), ((omega arith, omega arith), tt)) }, refl, tt),
+    );
+    few = omega arith;
+    outcomes = (refl, refl, tt, omega arith, tt);
+    tests = (tt, (tt, (record { second = omega arith; known = omega arith; named = refl; earlier = omega arith; alike = refl }, (tt, tt))));
+    first_version = λ e. absurd (omega arith);
+  };
+}
+
+two_legal : IsLegal two (0 ∷ 1 ∷ 1 ∷ 0 ∷ [])
+two_legal = schedule_legal two (codes "schedule 1\nA B B A\n") (0 ∷ 1 ∷ 1 ∷ 0 ∷ []) in_turns
+
+-- so the law speaks of them
+two_again : schedule_of two (spelled (schedule_lines two (0 ∷ 1 ∷ 1 ∷ 0 ∷ []))) ≡ Ok (0 ∷ 1 ∷ 1 ∷ 0 ∷ [])
+two_again = schedules_again two (0 ∷ 1 ∷ 1 ∷ 0 ∷ []) two_well_formed two_legal
