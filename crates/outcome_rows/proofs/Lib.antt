@@ -1,3 +1,4 @@
+pub mod EndLemmas
 pub mod OutcomeLemmas
 pub mod PartLemmas
 pub mod ProgramLemmas

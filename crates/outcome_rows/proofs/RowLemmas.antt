@@ -46,16 +46,8 @@ module _ {S M W : Type 0} (seen : S → M) (weigh : M → Option W) (zero : W �
 
 -- the end of a run
 module _ {M T W : Type 0} (e : Told M T) (weigh : M → Option W) (zero : W → Bool) (s : M) (commands : List Command) (ends : List (Live M)) (ended : ends_from e s commands ≡ Ok ends) where
-  weighed : rows_from e weigh zero s commands ≡ fitting (1 + length commands) (rows_at weigh zero ends)
+  pub weighed : rows_from e weigh zero s commands ≡ fitting (1 + length commands) (rows_at weigh zero ends)
   weighed = ap (λ r. r >>> λ live. fitting (1 + length commands) (rows_at weigh zero live)) ended
-
-  -- the rows, where all weights fit
-  pub rows_ok : (rows : List (List ℕ × W)) → rows_at weigh zero ends ≡ Some rows → rows_from e weigh zero s commands ≡ Ok rows
-  rows_ok rows h = weighed ∙ ap (fitting (1 + length commands)) h
-
-  -- a weight that doesn't fit stops the run in the turn behind the last one
-  pub rows_late : rows_at weigh zero ends ≡ None → rows_from e weigh zero s commands ≡ Err (Overflow (1 + length commands))
-  rows_late h = weighed ∙ ap (fitting (1 + length commands)) h
 
 -- a step that stops in a turn stops the run there
 pub stops_there : {A : Type 0} (fault : StepFault) (told : RunFault) (turn : ℕ) (stated : Result A RunStop) → (fault ≡ TooLarge → told ≡ Stop (Overflow turn)) → (fault ≡ StepFault.Memory → told ≡ Memory)
