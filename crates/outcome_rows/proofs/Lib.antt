@@ -3,4 +3,5 @@ pub mod OutcomeLemmas
 pub mod PartLemmas
 pub mod ProgramLemmas
 pub mod RowLemmas
+pub mod WordLemmas
 mod Worked
