@@ -1,5 +1,5 @@
 -- The ends of letters, sorted and weighed.
-use Rattle.std.proofs.Common.{◌≡◌, ℕ, ◌+◌, Bool, true, false, List, [], ◌∷◌, length, Option, Some, None, refl, ap, ◌∙◌}
+use Rattle.std.proofs.Common.{◌≡◌, ℕ, ◌+◌, Bool, true, false, List, [], ◌∷◌, length, Option, Some, None, refl, ap, sym, ◌∙◌}
 use Rattle.std.specs.Prelude.{if◌then◌else◌, ◌&&◌, is_ok, is_some, IsOk, IsPermutation, Result, Ok, Err}
 use Rattle.std.specs.Cmp.{both_ways}
 use Rattle.std.proofs.lemmas.List.Sorted.{All-permutation, IsPermutation-sym}
@@ -7,15 +7,16 @@ use Rattle.std.proofs.lemmas.List.Sums.{AllPass-from_list_all, list_all-from_All
 use Rattle.ring_laws.specs.Stated.{◌>>=◌, steps_over}
 use Rattle.program_text.specs.declared.letter.Letter.{Letter}
 use Rattle.word_runs.specs.Told.{Told}
-use Rattle.word_runs.specs.Runs.{Live, ◌>>>◌, Stops, fitting, run_of, start_word}
+use Rattle.word_runs.specs.Runs.{Live, ◌>>>◌, Runs, Stops, fitting, run_of, start_word}
 use Rattle.word_runs.specs.declared.fault.RunFault.{RunFault}
 use Rattle.word_runs.specs.declared.fault.RunFault.TheVariants.{Stop, Memory}
 use Rattle.word_runs.specs.declared.fault.RunStop.{RunStop}
 use Rattle.word_runs.specs.declared.fault.RunStop.TheVariants.{Overflow}
-use Rattle.outcome_rows.specs.Ends.{AreRowsOf, all_fit, letter_ends, weights_turn}
+use Rattle.outcome_rows.specs.Ends.{AreRowsOf, RunsSorted, all_fit, letter_ends, weights_turn}
 use Rattle.outcome_rows.specs.Evaluated.{row_added, row_step, rows_at}
-use Rattle.outcome_rows.specs.WordOrder.{AreSorted}
+use Rattle.outcome_rows.specs.WordOrder.{AreSorted, in_word_order}
 use Rattle.outcome_rows.proofs.OutcomeLemmas.{are_weighed, fitting_some}
+use Rattle.outcome_rows.proofs.RowLemmas.{stops_through}
 
 module _ {M W : Type 0} (weigh : M → Option W) (zero : W → Bool) where
   -- where there are rows, each weight fits
@@ -73,3 +74,11 @@ module _ {M W : Type 0} (weigh : M → Option W) (zero : W → Bool) where
         by : (o : Option (List (List ℕ × W))) → rows_at weigh zero sorted ≡ o → fitting (1 + length ls) o ≡ Err stop → letter_ends e weigh m ls s ≡ Err stop
         by None is stops = ends_by false (none_fit sorted [] is) ∙ cc
         by (Some rows) is stops = absurd (cc)
+
+-- what ends in sorted live words ends in those in word order, where these are the same
+pub ends_ordered : {V M : Type 0} (view : V → List (Live M)) (r : Result V RunFault) (stated : Result (List (Live M)) RunStop) (count m : ℕ) → RunsSorted view r stated
+    → ((live sorted : List (Live M)) → stated ≡ Ok live → AreSorted live sorted → sorted ≡ in_word_order count m live)
+    → Runs view r (stated >>> λ ends. Ok (in_word_order count m ends))
+ends_ordered {V} {M} view (Ok value) stated count m is same =
+    ap (λ (x : Result (List (Live M)) RunStop). x >>> λ ends. Ok (in_word_order count m ends)) is.1 ∙ (λ j. Ok (sym (same is.0 (view value) is.1 is.2) j))
+ends_ordered {V} {M} view (Err fault) stated count m is same = stops_through fault stated (λ (ends : List (Live M)). Ok (in_word_order count m ends)) is
