@@ -64,3 +64,8 @@ stops_through Memory r f h = tt
 pub if_ended : {V A : Type 0} (P : A → Type 0) (view : V → A) (r : Result V RunFault) (stated : Result A RunStop) → Runs view r stated → ((x : A) → stated ≡ Ok x → P x) → IfOk r (λ v. P (view v))
 if_ended P view (Ok v) stated is holds = holds (view v) is
 if_ended P view (Err fault) stated is holds = tt
+
+-- what follows of a value follows of an answer
+pub if_ok_map : {V F : Type 0} (P Q : V → Type 0) (r : Result V F) → IfOk r P → ((v : V) → P v → Q v) → IfOk r Q
+if_ok_map P Q (Ok v) h follows = follows v h
+if_ok_map P Q (Err fault) h follows = tt

@@ -1,6 +1,3 @@
 pub mod OutcomeLemmas
-pub mod PartOrder
-pub mod ProgramOutcomes
-pub mod RowLemmas
 pub mod StepLemmas
-mod Worked
+pub mod TurnLemmas
