@@ -5,6 +5,7 @@ ghost use Rattle.std.specs.List.{AllByRecursion};
 ghost use Rattle.fusion_rules.specs.Fusion.{fuses};
 ghost use Rattle.symbol_table.specs.Category.{symbols};
 ghost use Rattle.tree_shapes.specs.Labelled.{is_admissible, size};
+ghost use Rattle.tree_shapes.specs.Outlines as outline;
 ghost use Rattle.tree_shapes.specs.Views.{labelled};
 ghost use Rattle.tree_shapes.specs.declared.limits.TheConstants.{STRAND_LIMIT};
 ghost use Rattle.word_runs.specs.Runs.{run_of, start_word};
@@ -44,6 +45,14 @@ pub(crate) fn begin<R: StarRing>(
     }
 }
 
+/// How many strands a state has.
+fn strands_of<R: StarRing>(state: &TreeState<R>) -> u8
+    requires { outline.size state.now.shape ≡ length state.now.strands }
+    ensures { result ≡ length state.now.strands }
+{
+    state.shape().leaves()
+}
+
 /// The total and the rows of letters from a state.
 pub(crate) fn rows_from<R: StarRing>(
     alloc: Global,
@@ -62,7 +71,7 @@ pub(crate) fn rows_from<R: StarRing>(
 {
     let engine = TreeEngine {
         category,
-        strands: state.shape().leaves(),
+        strands: strands_of(&state),
     };
     letter_outcomes(
         alloc,
@@ -92,7 +101,7 @@ pub(crate) fn ends_from<R: StarRing>(
 {
     let engine = TreeEngine {
         category,
-        strands: state.shape().leaves(),
+        strands: strands_of(&state),
     };
     sorted_ends(alloc, &engine, letters, places, state)
 }
