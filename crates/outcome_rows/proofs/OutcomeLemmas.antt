@@ -21,10 +21,10 @@ use Rattle.outcome_rows.specs.Outcomes.{EndsInOutcomes}
 -- rows one after another
 module _ {M W : Type 0} (weigh : M → Option W) (zero : W → Bool) where
   -- All live words with their weights, of which the rows are those whose weight isn't zero.
-  record AreWeighed (live : List (Live M)) (before rows : List (List ℕ × W)) : Type 0 where
-    all : List (List ℕ × W)
-    fit : weighed weigh live ≡ Some all
-    are : rows ≡ before ++ rows_among zero all
+  pub record AreWeighed (live : List (Live M)) (before rows : List (List ℕ × W)) : Type 0 where
+    pub all : List (List ℕ × W)
+    pub fit : weighed weigh live ≡ Some all
+    pub are : rows ≡ before ++ rows_among zero all
 
   row_placed : (word : List ℕ) (x : W) (before rest : List (List ℕ × W)) → row_added zero word x before ++ rest ≡ before ++ (if not (zero x) then (word, x) ∷ rest else rest)
   row_placed word x before rest = pick (zero x)
@@ -37,7 +37,7 @@ module _ {M W : Type 0} (weigh : M → Option W) (zero : W → Bool) where
       pick true = refl
       pick false = end before
 
-  are_weighed : (live : List (Live M)) (before rows : List (List ℕ × W)) → steps_over (row_step weigh zero) live before ≡ Some rows → AreWeighed live before rows
+  pub are_weighed : (live : List (Live M)) (before rows : List (List ℕ × W)) → steps_over (row_step weigh zero) live before ≡ Some rows → AreWeighed live before rows
   are_weighed [] before rows e = record { all = []; fit = refl; are = sym (some_inj before rows e) ∙ sym (append-nil before) }
   are_weighed (l ∷ live) before rows e =
       let one = bind_some (row_step weigh zero l before) (λ (next : List (List ℕ × W)). steps_over (row_step weigh zero) live next) rows e in

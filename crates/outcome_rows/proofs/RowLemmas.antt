@@ -46,16 +46,8 @@ module _ {S M W : Type 0} (seen : S → M) (weigh : M → Option W) (zero : W �
 
 -- the end of a run
 module _ {M T W : Type 0} (e : Told M T) (weigh : M → Option W) (zero : W → Bool) (s : M) (commands : List Command) (ends : List (Live M)) (ended : ends_from e s commands ≡ Ok ends) where
-  weighed : rows_from e weigh zero s commands ≡ fitting (1 + length commands) (rows_at weigh zero ends)
+  pub weighed : rows_from e weigh zero s commands ≡ fitting (1 + length commands) (rows_at weigh zero ends)
   weighed = ap (λ r. r >>> λ live. fitting (1 + length commands) (rows_at weigh zero live)) ended
-
-  -- the rows, where all weights fit
-  pub rows_ok : (rows : List (List ℕ × W)) → rows_at weigh zero ends ≡ Some rows → rows_from e weigh zero s commands ≡ Ok rows
-  rows_ok rows h = weighed ∙ ap (fitting (1 + length commands)) h
-
-  -- a weight that doesn't fit stops the run in the turn behind the last one
-  pub rows_late : rows_at weigh zero ends ≡ None → rows_from e weigh zero s commands ≡ Err (Overflow (1 + length commands))
-  rows_late h = weighed ∙ ap (fitting (1 + length commands)) h
 
 -- a step that stops in a turn stops the run there
 pub stops_there : {A : Type 0} (fault : StepFault) (told : RunFault) (turn : ℕ) (stated : Result A RunStop) → (fault ≡ TooLarge → told ≡ Stop (Overflow turn)) → (fault ≡ StepFault.Memory → told ≡ Memory)
@@ -72,3 +64,8 @@ stops_through Memory r f h = tt
 pub if_ended : {V A : Type 0} (P : A → Type 0) (view : V → A) (r : Result V RunFault) (stated : Result A RunStop) → Runs view r stated → ((x : A) → stated ≡ Ok x → P x) → IfOk r (λ v. P (view v))
 if_ended P view (Ok v) stated is holds = holds (view v) is
 if_ended P view (Err fault) stated is holds = tt
+
+-- what follows of a value follows of an answer
+pub if_ok_map : {V F : Type 0} (P Q : V → Type 0) (r : Result V F) → IfOk r P → ((v : V) → P v → Q v) → IfOk r Q
+if_ok_map P Q (Ok v) h follows = follows v h
+if_ok_map P Q (Err fault) h follows = tt

@@ -1,13 +1,22 @@
 -- Worked values, on two qubits and on numbers, and one run that meets every premise of the law of outcomes.
-use Rattle.std.proofs.Common.{◌≡◌, ℕ, ◌+◌, [], ◌∷◌, Option, Some, None, refl, arith}
-use Rattle.std.specs.Prelude.{if◌then◌else◌, ◌==◌, Ok, Err}
+use Rattle.std.proofs.Common.{◌≡◌, ℕ, ◌+◌, List, [], ◌∷◌, Option, Some, None, refl, arith}
+use Rattle.std.specs.Prelude.{if◌then◌else◌, ◌==◌, Result, Ok, Err}
 use Rattle.comb_laws.specs.Plans.{Outcomes}
+use Rattle.program_text.specs.declared.letter.Letter.{Letter}
+use Rattle.program_text.specs.declared.plan.Command.{Command}
+use Rattle.program_text.specs.declared.plan.Command.TheVariants.{Measure}
+use Rattle.word_runs.specs.Runs.{Live, ◌>>>◌, run_of, start_word}
+use Rattle.word_runs.specs.declared.fault.RunStop.{RunStop}
 use Rattle.word_runs.specs.declared.fault.RunStop.TheVariants.{Overflow}
+use Rattle.run_laws.specs.Meaning.{words_of}
+use Rattle.run_laws.specs.Schedules.{site_letters}
 use Rattle.run_laws.specs.TwoQubits.{Pair, stands, two_acts, two_faithful, two_nought, two_rising, two_shapes, two_told, two_weighing, two_weight}
-use Rattle.run_laws.specs.Turns.{in_text}
+use Rattle.run_laws.specs.Turns.{in_text, turns}
 use Rattle.run_laws.proofs.Worked.{sites, start}
 use Rattle.outcome_rows.specs.Commands.{AreRunnable}
-use Rattle.outcome_rows.specs.Evaluated.{evaluation_of, rows_at}
+use Rattle.outcome_rows.specs.Ends.{weighed_ends}
+use Rattle.outcome_rows.specs.Evaluated.{ends_from, evaluation_of, rows_at}
+use Rattle.outcome_rows.specs.WordOrder.{in_word_order}
 use Rattle.outcome_rows.specs.Outcomes.{outcomes_of_plan}
 use Rattle.outcome_rows.proofs.OutcomeLemmas.{ends_in_outcomes}
 
@@ -45,6 +54,33 @@ total_too_large = refl
 
 weight_too_large : evaluation_of two_told (λ s. if s.gap == 3 then None else weigh s) (λ x. x == 0) begun (in_text sites) ≡ Err (Overflow 6)
 weight_too_large = refl
+
+-- the second site takes its first turn before the first site: the same live words, and the same stops
+abbrev mixed : List Letter
+mixed = turns (site_letters 0 sites) (1 ∷ 0 ∷ 0 ∷ 1 ∷ 1 ∷ [])
+
+mixed_ends : weighed_ends two_told weigh 2 mixed begun ≡ ends_from two_told begun (in_text sites)
+mixed_ends = refl
+
+mixed_stops : ((weighed_ends two_told (λ s. if s.gap == 2 then None else weigh s) 2 mixed begun ≡ Err (Overflow 0)) × (weighed_ends two_told (λ s. if s.gap == 3 then None else weigh s) 2 mixed begun ≡ Err (Overflow 6)))
+mixed_stops = (refl, refl)
+
+-- where two sites measure and the second is first, its outcomes come first among the live words as they are made, and are put
+-- in order
+abbrev both : List (List Command)
+both = (Measure 1 ∷ []) ∷ (Measure 3 ∷ []) ∷ []
+
+abbrev both_start : Pair
+both_start = record { gap = 2; vector = record { first = record { none = 2; one = 3 }; second = record { none = 5; one = 7 } } }
+
+abbrev words_by : (List (Live Pair) → List (Live Pair)) → Result (List (List ℕ)) RunStop
+words_by order = run_of two_told 1 (turns (site_letters 0 both) (1 ∷ 0 ∷ [])) (start_word 2 both_start) >>> λ live. Ok (words_of (order live))
+
+as_made : words_by (λ live. live) ≡ Ok ((0 ∷ 0 ∷ []) ∷ (1 ∷ 0 ∷ []) ∷ (0 ∷ 1 ∷ []) ∷ (1 ∷ 1 ∷ []) ∷ [])
+as_made = refl
+
+put_in_order : words_by (in_word_order 2 2) ≡ Ok ((0 ∷ 0 ∷ []) ∷ (0 ∷ 1 ∷ []) ∷ (1 ∷ 0 ∷ []) ∷ (1 ∷ 1 ∷ []) ∷ [])
+put_in_order = refl
 
 -- a weight that is zero makes no row, and one that doesn't fit none at all
 no_zero_row : rows_at (λ x. Some (x + 1)) (λ x. x == 5) (record { word = 0 ∷ []; state = 7 } ∷ record { word = 1 ∷ []; state = 4 } ∷ record { word = 2 ∷ []; state = 0 } ∷ [])

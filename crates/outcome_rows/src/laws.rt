@@ -2,6 +2,7 @@
 
 ghost use Rattle.outcome_rows.specs.Commands.{ProgramsAreRunnable};
 ghost use Rattle.outcome_rows.specs.Outcomes.{EndsInOutcomes};
+ghost use Rattle.outcome_rows.specs.WordEnds.{SortedInWordOrder};
 
 use run_laws::Meaning;
 use word_runs::Engine;
@@ -15,4 +16,10 @@ pub fn programs<E: Engine>(_engine: &E)
 /// engine does on the way.
 pub fn outcomes<E: Meaning>(_engine: &E)
     ensures { EndsInOutcomes (E.told _engine.now) (E.count _engine.now) (E.act _engine.now) (E.Good _engine.now) (E.Stands _engine.now) (E.weigh _engine.now) (E.weight _engine.now) (E.zero _engine.now) }
+{}
+
+/// Live words at the end of a run that are sorted by their labels are those in the order of lists of labels: for each word in
+/// that order, the one that has it, if there is one.
+pub fn word_order<E: Meaning>(_engine: &E)
+    ensures { SortedInWordOrder (E.count _engine.now) (E.act _engine.now) (E.Good _engine.now) (E.nought _engine.now) (E.Stands _engine.now) }
 {}

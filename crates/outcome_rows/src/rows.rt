@@ -1,7 +1,7 @@
 //! Rows, and the total before them.
 
-ghost use Rattle.std.specs.Prelude.{◌≡◌, ◌++◌, [], ◌∷◌, Option, Some, None, IsTrue, IfOk, OnOk, IsErrOf};
-ghost use Rattle.word_runs.specs.Runs.{Runs};
+ghost use Rattle.std.specs.Prelude.{◌≡◌, ◌+◌, ◌<◌, ◌^◌, ◌++◌, [], ◌∷◌, Option, Some, None, IsTrue, IfOk, OnOk, IsErrOf};
+ghost use Rattle.word_runs.specs.Runs.{Runs, fitting};
 ghost use Rattle.word_runs.specs.Lives.{AreOf, lives_of};
 ghost use Rattle.outcome_rows.specs.Commands.{AreRunnable};
 ghost use Rattle.outcome_rows.specs.Evaluated.{AreWeights, evaluation_of, row_added, rows_at, rows_from};
@@ -83,8 +83,30 @@ pub fn rows_of_words<R: StarRing, E: Engine, F: Fn(&E::State) -> Result<R::Elem,
     Ok(rows)
 }
 
+/// The rows at the end of a run of so many turns: the turn behind them evaluates the weights.
+pub(crate) fn end_rows<R: StarRing, E: Engine, F: Fn(&E::State) -> Result<R::Elem, Overflow>>(
+    alloc: Global,
+    engine: &E,
+    ring: &R,
+    ends: &[LiveWord<E::State>],
+    turns: usize,
+    weigh: F,
+) -> Result<Vec<Row<R>>, RunFault>
+    requires ends { AreOf (E.Of engine.now) ends.now }
+    requires few { turns < 2 ^ 31 }
+    requires callable { (state : _) → E.Of engine.now state.now → F.pre weigh state }
+    requires members { (state : _) (answer : _) → F.post weigh state answer → IfOk answer (λ v. IsTrue ((R.ring ring.now).member v)) }
+    ensures { (stated : E.Seen → Option R.Elem) → AreWeights (F.post weigh) (λ state. E.seen engine.now state.now) stated
+        → Runs (λ rows. rows_of rows.items) result (fitting (1 + turns) (rows_at stated R.held.is_zero (lives_of (E.seen engine.now) ends.now))) }
+{
+    match rows_of_words(alloc, engine, ring, ends, weigh) {
+        Ok(rows) => Ok(rows),
+        Err(fault) => Err(fault.in_turn(turns as u32 + 1)),
+    }
+}
+
 /// The rows at the end of commands from a state.
-fn end_rows<R: StarRing, E: Engine, F: Fn(&E::State) -> Result<R::Elem, Overflow>>(
+fn text_rows<R: StarRing, E: Engine, F: Fn(&E::State) -> Result<R::Elem, Overflow>>(
     alloc: Global,
     engine: &E,
     ring: &R,
@@ -100,9 +122,9 @@ fn end_rows<R: StarRing, E: Engine, F: Fn(&E::State) -> Result<R::Elem, Overflow
         → Runs (λ rows. rows_of rows.items) result (rows_from (E.told engine.now) stated R.held.is_zero (E.seen engine.now start) commands.now) }
 {
     let ends = run_commands(alloc, engine, commands, start)?;
-    match rows_of_words(alloc, engine, ring, ends.as_slice(), weigh) {
+    match end_rows(alloc, engine, ring, ends.as_slice(), commands.len(), weigh) {
         Ok(rows) => Ok(rows),
-        Err(fault) => Err(fault.in_turn(commands.len() as u32 + 1)),
+        Err(fault) => Err(fault),
     }
 }
 
@@ -132,7 +154,7 @@ pub fn text_outcomes<R: StarRing, E: Engine, F: Fn(&E::State) -> Result<R::Elem,
     let Ok(total) = weigh(&start) else {
         return Err(RunFault::Stop(RunStop::Overflow { turn: 0 }));
     };
-    match end_rows(alloc, engine, ring, commands, start, weigh) {
+    match text_rows(alloc, engine, ring, commands, start, weigh) {
         Ok(list) => Ok(Rows { total, list }),
         Err(fault) => Err(fault),
     }

@@ -1,8 +1,8 @@
 ghost use Rattle.std.specs.List.{AllByRecursion};
 ghost use Rattle.std.specs.Prelude.{◌≡◌, ◌+◌, ◌++◌, ℕ, nat_lt, if◌then◌else◌, true, refl, [], ◌∷◌, Some, None, OnOk};
 
-use crate::{Rows, rows_of_words, text_commands, text_outcomes};
-use program_text::{Command, Plan, Sign, Site};
+use crate::{Rows, letter_outcomes, rows_of_words, sorted_ends, text_commands, text_outcomes};
+use program_text::{Command, Letter, Plan, Sign, Site};
 use ring_laws::{Int, Overflow, Whole};
 use std::alloc::{AllocError, Global};
 use std::test::Fail;
@@ -108,6 +108,40 @@ fn outcomes_of_two_measurements(rt: HostRuntime) -> Result<(), Fail> {
     assert!(rt; is_row(&rows, 0, [0, 1], 1));
     assert!(rt; is_row(&rows, 1, [1, 0], 1));
     assert!(rt; is_row(&rows, 2, [1, 1], 2));
+    Ok(())
+}
+
+// The second place is measured first.
+const TURNS: [Letter; 3] = [
+    Letter::Charge { gap: 2, place: 1 },
+    Letter::Still { gap: 1 },
+    Letter::Charge { gap: 1, place: 0 },
+];
+
+#[test]
+fn outcomes_of_letters(rt: HostRuntime) -> Result<(), Fail> {
+    let rows = letter_outcomes(
+        rt.alloc(),
+        &Numbers,
+        &Whole,
+        &TURNS,
+        2,
+        0,
+        |state| whole(*state),
+    )
+    .ok()
+    .ok_or("stopped")?;
+    assert_eq!(rt; rows.total.get(), 0);
+    assert_eq!(rt; rows.list.len(), 3);
+    assert!(rt; is_row(&rows, 0, [0, 1], 1));
+    assert!(rt; is_row(&rows, 1, [1, 0], 1));
+    assert!(rt; is_row(&rows, 2, [1, 1], 2));
+    let ends = sorted_ends(rt.alloc(), &Numbers, &TURNS, 2, 0)
+        .ok()
+        .ok_or("stopped")?;
+    assert_eq!(rt; ends.len(), 4);
+    assert!(rt; ends[1].word.as_slice() == [0, 1].as_slice());
+    assert!(rt; ends[2].word.as_slice() == [1, 0].as_slice());
     Ok(())
 }
 

@@ -1,6 +1,4 @@
 pub mod OutcomeLemmas
-pub mod PartOrder
-pub mod ProgramOutcomes
-pub mod RowLemmas
 pub mod StepLemmas
+pub mod TurnLemmas
 mod Worked

@@ -1,18 +1,27 @@
--- Worked values: entries, steps, paths and runs, on the Fibonacci category and on symbols with numbers of their own at some
+-- Worked values: entries, steps, paths, and runs under schedules, on the Fibonacci category and on symbols with numbers of their own at some
 -- indices and one elsewhere. The expected values were worked out by hand.
-use Rattle.std.specs.Prelude.{◌&&◌, not, pos, negsuc, Ok, Err, ◌≡◌, ◌+ℤ◌, ℕ, true, false, List, [], ◌∷◌, Some, None, nat_abs, nat_lt, refl}
+use Rattle.std.specs.Prelude.{◌&&◌, not, pos, negsuc, Ok, Err, ◌≡◌, ◌+ℤ◌, ℕ, true, false, List, [], ◌∷◌, Some, None, Result, codes, nat_abs, nat_lt, refl}
 use Rattle.symbol_table.proofs.Fib.{fib_given, num, Whole5, fib, held5, inverse_golden, numbered, ring5, whole}
 use Rattle.symbol_table.specs.Symbols.{Symbols, symbols_of}
+use Rattle.tree_shapes.specs.Labelled.{Labelled, Joined, size}
 use Rattle.tree_shapes.specs.Outlines.{Outline, Tip, Branch}
 use Rattle.word_runs.specs.Told.{Told}
 use Rattle.word_runs.specs.declared.engine.Step.TheVariants.{Raise, Exchange}
+use Rattle.word_runs.specs.Runs.{Live, ◌>>>◌}
+use Rattle.word_runs.specs.declared.fault.RunStop.{RunStop}
 use Rattle.word_runs.specs.declared.fault.RunStop.TheVariants.{Overflow}
+use Rattle.program_text.specs.Program.{Program, ProgramSite}
+use Rattle.program_text.specs.declared.plan.Command.{Command}
 use Rattle.program_text.specs.declared.plan.Command.TheVariants.{Braid, Measure, Raise as Raised}
 use Rattle.program_text.specs.declared.plan.Sign.TheVariants.{Plus}
-use Rattle.comb_laws.proofs.Fib.{short, spread}
+use Rattle.comb_laws.specs.Plans.{Outcomes}
+use Rattle.comb_laws.proofs.Fib.{short, spread, t}
+use Rattle.run_laws.specs.Meaning.{words_of}
+use Rattle.outcome_rows.specs.Evaluated.{evaluation_of, rows_at}
 use Rattle.amp_store.specs.Amplitudes.{amplitude_of}
 use Rattle.recouple.specs.States.{State}
-use Rattle.runner.specs.Evaluated.{ends_of, evaluation_of}
+use Rattle.charge_project.specs.Weights.{stated_weight}
+use Rattle.runner.specs.Evaluated.{made_ends, own_state, scheduled_ends, scheduled_weights}
 use Rattle.runner.specs.Trees.{entries_of, raise_fits, stepped_at, tree_told}
 
 abbrev two_left : Outline
@@ -92,28 +101,70 @@ split_in_two = refl
 counted : (told 3).entries on_left ≡ 3
 counted = refl
 
+-- the outcomes of one site's commands in their order
+abbrev outcomes_by : Symbols Whole5 → Labelled → List Command → Result (Outcomes Whole5) RunStop
+outcomes_by c tree commands = evaluation_of (tree_told c (size tree)) (stated_weight c) c.held.is_zero (own_state c.ring tree) commands
+
 -- (t (t t):1):t weighs 1/phi; measured at its first two strands, after the raise of the right node, each label has the
 -- amplitude 1/phi, and the labels weigh 1/phi^3 and 1/phi^2
-measured_across : evaluation_of fib spread (Measure 1 ∷ [])
+measured_across : outcomes_by fib spread (Measure 1 ∷ [])
     ≡ Ok (record { total = inverse_golden; rows = (0 ∷ [], num (negsuc 2) (pos 0) (negsuc 1) (negsuc 1)) ∷ (1 ∷ [], num (pos 2) (pos 0) (pos 1) (pos 1)) ∷ [] })
 measured_across = refl
 
 -- its own pair has one label alone, and finds it again after a raise and back
-measured_twice : evaluation_of fib spread (Measure 2 ∷ Raised 2 ∷ Measure 2 ∷ []) ≡ Ok (record { total = inverse_golden; rows = (0 ∷ 0 ∷ [], inverse_golden) ∷ [] })
+measured_twice : outcomes_by fib spread (Measure 2 ∷ Raised 2 ∷ Measure 2 ∷ []) ≡ Ok (record { total = inverse_golden; rows = (0 ∷ 0 ∷ [], inverse_golden) ∷ [] })
 measured_twice = refl
 
 -- from ((t t):1 t):t, a braid at the other pair keeps the total
-braided_across : evaluation_of fib short (Raised 1 ∷ Braid 2 Plus ∷ []) ≡ Ok (record { total = inverse_golden; rows = ([], inverse_golden) ∷ [] })
+braided_across : outcomes_by fib short (Raised 1 ∷ Braid 2 Plus ∷ []) ≡ Ok (record { total = inverse_golden; rows = ([], inverse_golden) ∷ [] })
 braided_across = refl
+
+-- a program whose sites have these commands, each between two strands
+abbrev site : ℕ → ℕ → List Command → ProgramSite
+site first last commands = record { name = codes "s"; first = first; last = last; commands = commands }
+
+abbrev program : Labelled → List ProgramSite → Program
+program tree sites = record { version = 2; start = tree; sites = sites; outcomes = [] }
 
 -- the Fibonacci category over the ring without a product of 1/phi with itself: no item of the total or of the measurement
 -- has it, and each weight does, in the turn after the one command
 abbrev without_square : Symbols Whole5
 without_square = symbols_of (record ring5 { product_fits = λ x y. not (held5.equal x inverse_golden && held5.equal y inverse_golden) }) held5 fib_given
 
-weights_stop : ((ends_of without_square short (Measure 2 ∷ []) ≡ ends_of fib short (Measure 2 ∷ [])) × (evaluation_of without_square short (Measure 2 ∷ []) ≡ Err (Overflow 2)))
+abbrev one_site : Program
+one_site = program short (site 1 3 (Measure 2 ∷ []) ∷ [])
+
+weights_stop : ((scheduled_ends without_square one_site (0 ∷ []) ≡ scheduled_ends fib one_site (0 ∷ [])) × (scheduled_weights without_square one_site (0 ∷ []) ≡ Err (Overflow 2)))
 weights_stop = (refl, refl)
 
 -- over a ring without sums the total stops before any command
-total_stops : evaluation_of (symbols_of (record ring5 { sum_fits = λ x y. false }) held5 fib_given) short (Measure 2 ∷ []) ≡ Err (Overflow 0)
+total_stops : scheduled_weights (symbols_of (record ring5 { sum_fits = λ x y. false }) held5 fib_given) one_site (0 ∷ []) ≡ Err (Overflow 0)
 total_stops = refl
+
+-- ((t (t t):1):t t):t, measured at its first two and its last two strands: not both are 1. Where the second site is first, its
+-- outcomes come first among the live words as they are made, which then are put in order.
+abbrev across : Labelled
+across = Joined (Joined t (Joined t t 0) 1) t 1
+
+abbrev two_sites : Program
+two_sites = program across (site 1 2 (Measure 1 ∷ []) ∷ site 3 4 (Measure 3 ∷ []) ∷ [])
+
+abbrev words_at : Result (List (Live (State Whole5))) RunStop → Result (List (List ℕ)) RunStop
+words_at ends = ends >>> λ live. Ok (words_of live)
+
+second_first : words_at (made_ends fib two_sites (1 ∷ 0 ∷ [])) ≡ Ok ((1 ∷ 0 ∷ []) ∷ (0 ∷ 1 ∷ []) ∷ (1 ∷ 1 ∷ []) ∷ [])
+second_first = refl
+
+in_order : words_at (scheduled_ends fib two_sites (1 ∷ 0 ∷ [])) ≡ Ok ((0 ∷ 1 ∷ []) ∷ (1 ∷ 0 ∷ []) ∷ (1 ∷ 1 ∷ []) ∷ [])
+in_order = refl
+
+-- their weights fit: they are 1/phi^3 twice and 1/phi^4
+weights_fit : scheduled_weights fib two_sites (1 ∷ 0 ∷ []) ≡ made_ends fib two_sites (1 ∷ 0 ∷ [])
+weights_fit = refl
+
+abbrev cubed : Whole5
+cubed = num (negsuc 2) (pos 0) (negsuc 1) (negsuc 1)
+
+rows_in_order : (scheduled_ends fib two_sites (1 ∷ 0 ∷ []) >>> λ live. Ok (rows_at (stated_weight fib) held5.is_zero live))
+    ≡ Ok (Some ((0 ∷ 1 ∷ [], cubed) ∷ (1 ∷ 0 ∷ [], cubed) ∷ (1 ∷ 1 ∷ [], num (pos 5) (pos 0) (pos 3) (pos 3)) ∷ []))
+rows_in_order = refl

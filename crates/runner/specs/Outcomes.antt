@@ -1,28 +1,36 @@
--- The rows of a run are those of the plan.
-use Rattle.std.specs.Prelude.{◌≡◌, ◌≤◌, true, List, [], Ok}
-use Rattle.std.specs.List.{AllByRecursion}
+-- What the runs of programs mean, whatever the schedule.
+use Rattle.std.specs.Prelude.{◌≡◌, ℕ, List, Ok}
 use Rattle.symbol_table.specs.Symbols.{Symbols}
-use Rattle.tree_shapes.specs.Labelled.{Labelled, is_admissible, size}
-use Rattle.program_text.specs.Letters.{gap_of, letters}
+use Rattle.tree_shapes.specs.Labelled.{size}
+use Rattle.program_text.specs.Letters.{measurements}
 use Rattle.program_text.specs.Program.{Program}
 use Rattle.program_text.specs.WellFormed.{IsProgram, commands_in}
-use Rattle.program_text.specs.declared.plan.Command.{Command}
-use Rattle.word_runs.specs.Told.{IsGap}
+use Rattle.word_runs.specs.Runs.{Live}
 use Rattle.comb_laws.specs.Plans.{Outcomes, outcomes_of}
-use Rattle.run_laws.specs.Timely.{is_timely}
-use Rattle.runner.specs.Evaluated.{evaluation_of}
+use Rattle.run_laws.specs.Turns.{turns}
+use Rattle.site_schedule.specs.Legal.{IsLegal, letters_in}
+use Rattle.outcome_rows.specs.Ends.{AreOutcomesOf}
+use Rattle.outcome_rows.specs.WordOrder.{AreSorted, in_word_order}
+use Rattle.recouple.specs.States.{State}
+use Rattle.charge_project.specs.Weights.{stated_weight}
+use Rattle.runner.specs.Evaluated.{made_ends, own_state}
 use Rattle.runner.specs.Trees.{tree_told}
 
--- For each admissible tree of two strands or more, and commands at its gaps that test outcomes after these are there: where
--- the evaluation ends, its total and its rows, in their order, are those of the plan by the comb operators.
-abbrev pub EndsInOutcomes : {E : Type 0} → Symbols E → Type 0
-EndsInOutcomes {E} c =
-    (tree : Labelled) (commands : List Command) (ended : Outcomes E) → 2 ≤ size tree → is_admissible c.fuse tree ≡ true
-    → AllByRecursion (λ l. IsGap (tree_told c (size tree)) (gap_of l)) (letters 0 commands) → is_timely [] (letters 0 commands) ≡ true
-    → evaluation_of c tree commands ≡ Ok ended → ended ≡ outcomes_of c tree commands
+-- the total and the rows of a program's turns under a schedule: the weight of its start, and the weights that aren't zero of
+-- the live words at the end, sorted
+abbrev pub AreScheduled : {E : Type 0} → Symbols E → Program → List ℕ → Outcomes E → Type 0
+AreScheduled c p schedule made =
+    AreOutcomesOf (tree_told c (size p.start)) (stated_weight c) c.held.is_zero (measurements (commands_in p.sites)) (turns (letters_in p) schedule) (own_state c.ring p.start) made
 
--- So for each well formed program over the category.
-abbrev pub ProgramsEndInOutcomes : {E : Type 0} → Symbols E → Type 0
-ProgramsEndInOutcomes {E} c =
-    (p : Program) (ended : Outcomes E) → IsProgram c.fuse c.count p
-    → evaluation_of c p.start (commands_in p.sites) ≡ Ok ended → ended ≡ outcomes_of c p.start (commands_in p.sites)
+-- For each well formed program and each legal schedule: where the run ends, its total and its rows are those of the plan by
+-- the comb operators in the order of the text.
+abbrev pub SchedulesEndInOutcomes : {E : Type 0} → Symbols E → Type 0
+SchedulesEndInOutcomes {E} c =
+    (p : Program) (schedule : List ℕ) (made : Outcomes E) → IsProgram c.fuse c.count p → IsLegal p schedule
+    → AreScheduled c p schedule made → made ≡ outcomes_of c p.start (commands_in p.sites)
+
+-- And its live words, sorted, are those in the order of lists of labels.
+abbrev pub SchedulesEndInOrder : {E : Type 0} → Symbols E → Type 0
+SchedulesEndInOrder {E} c =
+    (p : Program) (schedule : List ℕ) (live sorted : List (Live (State E))) → IsProgram c.fuse c.count p → IsLegal p schedule
+    → made_ends c p schedule ≡ Ok live → AreSorted live sorted → sorted ≡ in_word_order c.count (measurements (commands_in p.sites)) live

@@ -1,27 +1,31 @@
-//! The ends of commands from a tree.
+//! Runs of letters from a tree.
 
 ghost use Rattle.std.specs.Prelude.{◌≡◌, ◌<◌, ◌≤◌, ◌^◌, length, IfOk, true};
 ghost use Rattle.std.specs.List.{AllByRecursion};
 ghost use Rattle.fusion_rules.specs.Fusion.{fuses};
 ghost use Rattle.symbol_table.specs.Category.{symbols};
 ghost use Rattle.tree_shapes.specs.Labelled.{is_admissible, size};
+ghost use Rattle.tree_shapes.specs.Outlines as outline;
 ghost use Rattle.tree_shapes.specs.Views.{labelled};
 ghost use Rattle.tree_shapes.specs.declared.limits.TheConstants.{STRAND_LIMIT};
-ghost use Rattle.program_text.specs.Letters.{IsTestOf, gap_of, letters, measurements};
-ghost use Rattle.word_runs.specs.Told.{IsGap};
-ghost use Rattle.word_runs.specs.Runs.{Runs};
-ghost use Rattle.word_runs.specs.Lives.{lives_of};
+ghost use Rattle.word_runs.specs.Runs.{run_of, start_word};
+ghost use Rattle.word_runs.specs.Lives.{IsFit, lives_of};
+ghost use Rattle.charge_project.specs.Weights.{stated_weight};
+ghost use Rattle.outcome_rows.specs.Ends.{AreOutcomesOf, RunsSorted, StopsAs, weighed_ends};
+ghost use Rattle.outcome_rows.specs.Rows.{outcomes_in};
 ghost use Rattle.runner.specs.Trees.{IsTreeState, tree_told};
-ghost use Rattle.runner.specs.Evaluated.{ends_from, ends_of, own_state};
+ghost use Rattle.runner.specs.Evaluated.{own_state};
 
 use crate::engine::TreeEngine;
-use program_text::Command;
+use charge_project::weight;
+use outcome_rows::{Rows, letter_outcomes, sorted_ends};
+use program_text::Letter;
 use recouple::{TreeState, start};
 use ring_laws::StarRing;
 use std::alloc::{AllocError, Global};
 use symbol_table::Category;
 use tree_shapes::Tree;
-use word_runs::{LiveWord, RunFault, run_commands};
+use word_runs::{LiveWord, RunFault};
 
 /// The state in which a run begins: a tree with its own labels.
 pub(crate) fn begin<R: StarRing>(
@@ -41,51 +45,63 @@ pub(crate) fn begin<R: StarRing>(
     }
 }
 
-/// The live words at the end of commands from a state.
-pub(crate) fn run_from<R: StarRing>(
+/// How many strands a state has.
+fn strands_of<R: StarRing>(state: &TreeState<R>) -> u8
+    requires { outline.size state.now.shape ≡ length state.now.strands }
+    ensures { result ≡ length state.now.strands }
+{
+    state.shape().leaves()
+}
+
+/// The total and the rows of letters from a state.
+pub(crate) fn rows_from<R: StarRing>(
     alloc: Global,
     category: &Category<R>,
     state: TreeState<R>,
-    commands: &[Command],
-) -> Result<Vec<LiveWord<TreeState<R>>>, RunFault>
+    letters: &[Letter],
+    places: u32,
+) -> Result<Rows<R>, RunFault>
     requires state { IsTreeState (symbols R.StarRing category.now) (length state.strands) state }
-    requires gaps { AllByRecursion (λ l. IsGap (tree_told (symbols R.StarRing category.now) (length state.strands)) (gap_of l)) (letters 0 commands.now) }
-    requires tests { AllByRecursion (IsTestOf (measurements commands.now)) commands.now }
-    requires short { length commands.now < 2 ^ 31 }
-    ensures states { IfOk result (λ ends. AllByRecursion (λ l. IsTreeState (symbols R.StarRing category.now) (length state.strands) l.state) ends.items) }
-    ensures stated { Runs (λ ends. lives_of (λ s. s) ends.items) result (ends_from (symbols R.StarRing category.now) (length state.strands) state commands.now) }
+    requires fit { AllByRecursion (IsFit (tree_told (symbols R.StarRing category.now) (length state.strands)) places) letters.now }
+    requires few { length letters.now < 2 ^ 31 }
+    ensures stated { let c = symbols R.StarRing category.now in
+        StopsAs result (weighed_ends (tree_told c (length state.strands)) (stated_weight c) places letters.now state) }
+    ensures outcomes { let c = symbols R.StarRing category.now in
+        IfOk result (λ rows. AreOutcomesOf (tree_told c (length state.strands)) (stated_weight c) c.held.is_zero places letters.now state (outcomes_in rows)) }
 {
     let engine = TreeEngine {
         category,
-        strands: state.shape().leaves(),
+        strands: strands_of(&state),
     };
-    run_commands(alloc, &engine, commands, state)
+    letter_outcomes(
+        alloc,
+        &engine,
+        category.ring(),
+        letters,
+        places,
+        state,
+        |end| { weight(category, end) },
+    )
 }
 
-/// The live words at the end of commands from an admissible tree of 2 to
-/// [`STRAND_LIMIT`](tree_shapes::STRAND_LIMIT) strands, in the order in which they are made: one label for each
-/// measurement in text order, and the state of the word.
-///
-/// Each command is a turn, counted from 1, at a gap of the strands. The run stops exactly where the stated evaluation
-/// does: `Overflow` where an item of a step doesn't fit in one of the live words, else `Branches` or `Wide` where the
-/// words or the amplitudes pass the limits of `word_runs`.
-pub fn run_states<R: StarRing>(
+/// The live words at the end of letters from a state, in the order of lists of labels.
+pub(crate) fn ends_from<R: StarRing>(
     alloc: Global,
     category: &Category<R>,
-    tree: &Tree,
-    commands: &[Command],
+    state: TreeState<R>,
+    letters: &[Letter],
+    places: u32,
 ) -> Result<Vec<LiveWord<TreeState<R>>>, RunFault>
-    requires some { 2 ≤ size (labelled tree.now) }
-    requires few { size (labelled tree.now) ≤ STRAND_LIMIT }
-    requires admissible { is_admissible (fuses category.now.rules) (labelled tree.now) ≡ true }
-    requires gaps { AllByRecursion (λ l. IsGap (tree_told (symbols R.StarRing category.now) (size (labelled tree.now))) (gap_of l)) (letters 0 commands.now) }
-    requires tests { AllByRecursion (IsTestOf (measurements commands.now)) commands.now }
-    requires short { length commands.now < 2 ^ 31 }
-    // Every state is one of the category, over as many strands.
-    ensures states { IfOk result (λ ends. AllByRecursion (λ l. IsTreeState (symbols R.StarRing category.now) (size (labelled tree.now)) l.state) ends.items) }
-    // It stops exactly where the stated evaluation does.
-    ensures stated { Runs (λ ends. lives_of (λ s. s) ends.items) result (ends_of (symbols R.StarRing category.now) (labelled tree.now) commands.now) }
+    requires state { IsTreeState (symbols R.StarRing category.now) (length state.strands) state }
+    requires fit { AllByRecursion (IsFit (tree_told (symbols R.StarRing category.now) (length state.strands)) places) letters.now }
+    requires few { length letters.now < 2 ^ 31 }
+    ensures states { IfOk result (λ ends. AllByRecursion (λ l. IsTreeState (symbols R.StarRing category.now) (length state.strands) l.state) ends.items) }
+    ensures stated { let c = symbols R.StarRing category.now in
+        RunsSorted (λ ends. lives_of (λ s. s) ends.items) result (run_of (tree_told c (length state.strands)) 1 letters.now (start_word places state)) }
 {
-    let state = begin(alloc, category, tree)?;
-    run_from(alloc, category, state, commands)
+    let engine = TreeEngine {
+        category,
+        strands: strands_of(&state),
+    };
+    sorted_ends(alloc, &engine, letters, places, state)
 }

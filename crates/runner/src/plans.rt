@@ -1,4 +1,4 @@
-//! Runs of plans, in the order of the text.
+//! Runs of plans under a schedule.
 
 ghost use Rattle.std.specs.Prelude.{◌≡◌, IfOk};
 ghost use Rattle.std.specs.List.{AllByRecursion};
@@ -11,61 +11,88 @@ ghost use Rattle.program_text.specs.WellFormed.{IsProgram, commands_in};
 ghost use Rattle.word_runs.specs.Runs.{Runs};
 ghost use Rattle.word_runs.specs.Lives.{lives_of};
 ghost use Rattle.comb_laws.specs.Plans.{outcomes_of};
+ghost use Rattle.site_schedule.specs.Legal.{IsLegal};
+ghost use Rattle.outcome_rows.specs.Ends.{StopsAs};
 ghost use Rattle.outcome_rows.specs.Rows.{outcomes_in};
-ghost use Rattle.runner.specs.Evaluated.{ends_of, evaluation_of};
+ghost use Rattle.runner.specs.Evaluated.{scheduled_ends, scheduled_weights};
 ghost use Rattle.runner.specs.Trees.{IsTreeState};
 
-use crate::ends::run_states;
-use crate::rows::run_rows;
-use outcome_rows::{Rows, text_commands};
+use crate::ends::{begin, ends_from, rows_from};
+use crate::laws::rows;
+use crate::turns::turns_of;
+use outcome_rows::Rows;
 use program_text::Plan;
 use recouple::TreeState;
 use ring_laws::StarRing;
+use site_schedule::Schedule;
 use std::alloc::Global;
 use symbol_table::Category;
 use word_runs::{LiveWord, RunFault};
 
-/// The total and the rows of a plan, run on trees from its start: the weight of the start, and each word of outcomes
-/// whose weight isn't zero, with its weight, in the order of lists of labels.
+/// The total and the rows of a plan, run on trees from its start under a legal schedule: the weight of the start, and each word
+/// of outcomes whose weight isn't zero, with its weight, in the order of lists of labels.
 ///
-/// The plan is well formed for the category's rules. Sites take their turns in the order of the text. `Overflow` comes
+/// The plan is well formed for the category's rules. Sites take their turns in the order of the schedule. `Overflow` comes
 /// exactly at the turn of the first item that doesn't fit: turn 0 evaluates the total, each command is a turn, and the turn
-/// after the last one evaluates the weights of the words. `Branches` and `Wide` come exactly where the words or the
-/// amplitudes pass the limits of `word_runs`.
+/// after the last one evaluates the weights of the words. `Branches` and `Wide` come exactly where the words or the amplitudes
+/// pass the limits of `word_runs`.
 pub fn run<R: StarRing>(
     alloc: Global,
     category: &Category<R>,
     plan: &Plan,
+    schedule: &Schedule,
 ) -> Result<Rows<R>, RunFault>
     requires program { IsProgram (fuses category.now.rules) category.now.rules.count (program_of plan.now) }
-    // The total and the rows are those of the comb operators in the order of the text, whatever trees the run went through.
+    requires legal { IsLegal (program_of plan.now) schedule.now.turns.items }
+    // The total and the rows are those of the comb operators in the order of the text, whatever the schedule and whatever trees
+    // the run went through.
     ensures rows { let c = symbols R.StarRing category.now in
         IfOk result (λ rows. outcomes_in rows ≡ outcomes_of c (labelled plan.now.start) (commands_in (program_of plan.now).sites)) }
     // It stops exactly where the stated evaluation does.
     ensures stated { let c = symbols R.StarRing category.now in
-        Runs outcomes_in result (evaluation_of c (labelled plan.now.start) (commands_in (program_of plan.now).sites)) }
+        StopsAs result (scheduled_weights c (program_of plan.now) schedule.now.turns.items) }
 {
-    let commands = text_commands(alloc, plan)?;
-    run_rows(alloc, category, &plan.start, &commands)
+    // What the rows mean.
+    rows(category);
+    let turns = turns_of(alloc, plan, schedule)?;
+    let start = begin(alloc, category, &plan.start)?;
+    rows_from(
+        alloc,
+        category,
+        start,
+        turns.letters.as_slice(),
+        turns.places,
+    )
 }
 
-/// The live words at the end of a plan, run on trees from its start, in the order of lists of labels: one label for each
-/// measurement in text order, and the state of the word. No weight is evaluated.
+/// The live words at the end of a plan, run on trees from its start under a legal schedule, in the order of lists of labels: one
+/// label for each measurement in text order, and the state of the word. No weight is evaluated.
 ///
-/// The plan is well formed for the category's rules. Sites take their turns in the order of the text. The run stops exactly
+/// The plan is well formed for the category's rules. Sites take their turns in the order of the schedule. The run stops exactly
 /// where the stated evaluation does, as [`run`] but for the weights at turn 0 and after the last turn.
 pub fn trees<R: StarRing>(
     alloc: Global,
     category: &Category<R>,
     plan: &Plan,
+    schedule: &Schedule,
 ) -> Result<Vec<LiveWord<TreeState<R>>>, RunFault>
     requires program { IsProgram (fuses category.now.rules) category.now.rules.count (program_of plan.now) }
+    requires legal { IsLegal (program_of plan.now) schedule.now.turns.items }
     // Every state is one of the category, over as many strands as the start.
     ensures states { IfOk result (λ ends. AllByRecursion (λ l. IsTreeState (symbols R.StarRing category.now) (size (labelled plan.now.start)) l.state) ends.items) }
     // It stops exactly where the stated evaluation does.
     ensures stated { let c = symbols R.StarRing category.now in
-        Runs (λ ends. lives_of (λ s. s) ends.items) result (ends_of c (labelled plan.now.start) (commands_in (program_of plan.now).sites)) }
+        Runs (λ ends. lives_of (λ s. s) ends.items) result (scheduled_ends c (program_of plan.now) schedule.now.turns.items) }
 {
-    let commands = text_commands(alloc, plan)?;
-    run_states(alloc, category, &plan.start, &commands)
+    // In which order the live words stand.
+    rows(category);
+    let turns = turns_of(alloc, plan, schedule)?;
+    let start = begin(alloc, category, &plan.start)?;
+    ends_from(
+        alloc,
+        category,
+        start,
+        turns.letters.as_slice(),
+        turns.places,
+    )
 }
