@@ -1,10 +1,10 @@
 -- What a report tells of the texts that it was made from.
-use Rattle.std.proofs.Common.{◌≡◌, ℕ, ◌==◌, ◌≤◌, List, length, Bool, true, false, nat_lt, if◌then◌else◌, Option, Some, None, Result, Ok, Err, refl, sym, ap, subst, ◌∙◌, arith}
+use Rattle.std.proofs.Common.{◌≡◌, ℕ, ◌≤◌, List, length, Bool, true, false, nat_lt, if◌then◌else◌, Option, Some, None, Result, Ok, Err, refl, sym, ap, subst, ◌∙◌, arith}
 use Rattle.std.specs.Prelude.{option_map, unwrap_or, IsOkAnd, IsTrue}
 use Rattle.std.specs.Option.{option_and_then, option_or}
 use Rattle.std.proofs.lemmas.Bool.Decides.{nat_tests}
 use Rattle.io_ports.specs.Ports.{Files}
-use Rattle.cyclo_core.specs.Ratio.{Ratio, ring_at, held}
+use Rattle.cyclo_core.specs.Ratio.{ring_at, held}
 use Rattle.cyclo_core.specs.RingAt.{ring_at_laws}
 use Rattle.fusion_rules.specs.Check.{rules_fault}
 use Rattle.fusion_rules.specs.declared.rules.RulesFault.{RulesFault}
@@ -22,7 +22,6 @@ use Rattle.category_text.specs.Canonical.{canonical, f_value}
 use Rattle.category_text.specs.Again.{IsSaid, AllSaid, TextsApart, TextsSettled}
 use Rattle.category_gate.proofs.GateLemmas.{sound, complete}
 use Rattle.law_events.specs.Sides.{first_of_all}
-use Rattle.anyon_app.specs.declared.texts.Kind as text
 use Rattle.anyon_app.specs.declared.texts.Kind.TheVariants.{Category}
 use Rattle.anyon_app.specs.Replies.{Reply, done, refused, limited}
 use Rattle.anyon_app.specs.Refusals.{category_line, too_long, rules_line, event_line, event_reply, event_words}
@@ -31,7 +30,7 @@ use Rattle.anyon_app.specs.Categories.{named_of, named_or}
 use Rattle.anyon_app.specs.Verdicts.{category_verdict, symbols_in, unless}
 use Rattle.anyon_app.specs.Check.{accepted, check_work}
 use Rattle.anyon_app.specs.Format.{format_work}
-use Rattle.anyon_app.specs.Laws.{IsCategoryText, HasLawfulText, SayTheSame, AcceptedIsLawful, LawfulIsAccepted, FormatSettles, FormattedAlike}
+use Rattle.anyon_app.specs.Laws.{IsCategoryText, HasLawfulText, AcceptedIsLawful, LawfulIsAccepted, FormatSettles, FormattedAlike}
 use Rattle.anyon_app.proofs.JudgeLemmas.{nothing_decides}
 
 -- a refusal is no report

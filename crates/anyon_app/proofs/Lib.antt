@@ -1,5 +1,6 @@
 mod LineLemmas
 mod StageLemmas
+mod ScheduleLemmas
 mod Puts
 mod Reached
 mod JudgeLemmas

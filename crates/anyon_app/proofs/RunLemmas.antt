@@ -1,8 +1,7 @@
 -- What the reports of runs tell of the texts that they were made from.
-use Rattle.std.proofs.Common.{◌≡◌, ℕ, List, map, Bool, true, false, if◌then◌else◌, Option, Some, Result, Ok, Err, refl, sym, ap, subst, ◌∙◌}
+use Rattle.std.proofs.Common.{◌≡◌, ℕ, List, map, Bool, true, false, if◌then◌else◌, Some, None, Result, Ok, Err, refl, sym, ap, subst, ◌∙◌}
 use Rattle.io_ports.specs.Ports.{Files}
 use Rattle.cyclo_core.specs.Ratio.{Ratio}
-use Rattle.symbol_table.specs.Laws.{IsLawful}
 use Rattle.category_text.specs.Named.{NamedSymbols}
 use Rattle.category_text.specs.Reading.{category_of}
 use Rattle.tree_shapes.specs.Labelled.{is_left_comb}
@@ -30,7 +29,7 @@ use Rattle.anyon_app.specs.Comb.{comb_work, rows_of, start_line}
 use Rattle.anyon_app.specs.Run.{run_work, run_by_work, rows_work}
 use Rattle.anyon_app.specs.Trees.{trees_work, trees_by_work, states_work}
 use Rattle.anyon_app.specs.Laws.{IsCategoryText, IsProgramText, HasLawfulText, HasRows, FinishedIsLawful, ReportAlike, ReportsRows}
-use Rattle.anyon_app.proofs.LawLemmas.{WasRead, category_is, has_lawful, limited_apart, no_category, refused_apart, some_same, too_long_apart, undecided, was_read}
+use Rattle.anyon_app.proofs.LawLemmas.{category_is, has_lawful, limited_apart, no_category, refused_apart, some_same, too_long_apart, undecided, was_read}
 
 -- What was admitted on the way to a report.
 record WasAdmitted (next : NamedSymbols → Work) (files : Files) (name report : List ℕ) : Type 0 where

@@ -11,14 +11,15 @@ ghost use Rattle.anyon_app.specs.Comb.{comb_work, rows_of, start_line};
 ghost use Rattle.anyon_app.specs.Verdicts.{unless};
 
 use crate::judge::Admitted;
-use crate::programs::{load_admitted, load_program, outcomes};
-use crate::refusals::comb_start_line;
+use crate::programs::{load_admitted, load_program, written};
+use crate::refusals::{comb_start_line, stop_line};
 use crate::stop::Stop;
 use comb_run::comb_run;
 use io_ports::Shelf;
 use program_text::Plan;
 use std::alloc::Global;
 use tree_shapes::is_left_comb;
+use word_runs::RunFault;
 
 /// Reads a category and judges it, reads a program with a left-combed start, runs it on left-combed paths
 /// in the order of the text and reports its rows. The category is judged before the program is read.
@@ -53,9 +54,10 @@ fn rows(alloc: Global, admitted: &Admitted, plan: &Plan) -> Result<Vec<u8>, Stop
     requires left { is_comb (labelled plan.now.start) ≡ true }
     ensures { Gives (λ report. report.items) result (rows_of (named_draft admitted.now.names admitted.now.category) (program_of plan.now)) }
 {
-    outcomes(
-        alloc,
-        &admitted.names,
-        comb_run(alloc, &admitted.category, plan),
-    )
+    let rows = match comb_run(alloc, &admitted.category, plan) {
+        Ok(rows) => rows,
+        Err(RunFault::Stop(stop)) => return Err(stop_line(alloc, stop)),
+        Err(RunFault::Memory) => return Err(Stop::Memory),
+    };
+    written(alloc, &admitted.names, &rows)
 }

@@ -1,21 +1,19 @@
-// The texts of a command that runs a program: a category that is admitted, the program and its schedule.
-ghost use Rattle.std.specs.Prelude.{◌≡◌, ◌<◌, ◌-◌, ◌^◌, IfOk, Ok, Result, length};
+// The texts of a command that runs a program: a category that is admitted, the program and its schedule;
+// and the report of its outcomes.
+ghost use Rattle.std.specs.Prelude.{◌≡◌, ◌<◌, ◌-◌, ◌^◌, IfOk, Ok, length};
 ghost use Rattle.fusion_rules.specs.Fusion.{fuses};
 ghost use Rattle.program_text.specs.Program.{program_of};
 ghost use Rattle.program_text.specs.WellFormed.{IsProgram};
 ghost use Rattle.category_text.specs.Named.{named_draft};
 ghost use Rattle.anyon_app.specs.Stages.{Gives, Passes};
-ghost use Rattle.cyclo_core.specs.Ratio.{Ratio};
-ghost use Rattle.comb_laws.specs.Plans.{Outcomes};
-ghost use Rattle.word_runs.specs.declared.fault.RunStop.{RunStop as Stops};
-ghost use Rattle.outcome_rows.specs.Ends.{StopsAs};
 ghost use Rattle.outcome_rows.specs.Rows.{outcomes_in};
+ghost use Rattle.outcome_report.specs.Report.{report_of};
 ghost use Rattle.site_schedule.specs.Legal.{IsLegal, IsWellFormed};
-ghost use Rattle.anyon_app.specs.Programs.{admitted_work, planned_work, program_of_text, report_or, scheduled_work, turns_of_program, turns_of_text};
+ghost use Rattle.anyon_app.specs.Programs.{admitted_work, planned_work, program_of_text, scheduled_work, turns_of_program, turns_of_text};
 
 use crate::categories::load_category;
 use crate::judge::{Admitted, judge};
-use crate::refusals::{program_line, schedule_line, stop_line};
+use crate::refusals::{program_line, schedule_line};
 use crate::stop::Stop;
 use crate::texts::{Kind, text};
 use cyclo_core::Cyclo;
@@ -26,7 +24,6 @@ use outcome_rows::Rows;
 use program_text::{Plan, ProgramFault, read_program};
 use site_schedule::{Schedule, read_schedule, text_order};
 use std::alloc::Global;
-use word_runs::RunFault;
 
 /// The category of a text, judged by its rules and its laws.
 pub fn load_admitted<S: Shelf>(alloc: Global, shelf: &mut S, name: &str) -> Result<Admitted, Stop>
@@ -106,22 +103,12 @@ pub fn text_schedule(alloc: Global, plan: &Plan) -> Result<Schedule, Stop>
     }
 }
 
-/// The report of a run's outcomes, or the stop where its evaluation stops.
-pub fn outcomes(
-    alloc: Global,
-    names: &Names,
-    ended: Result<Rows<Cyclo>, RunFault>,
-) -> Result<Vec<u8>, Stop>
-    ensures { {A : Type 0} → (rows : Outcomes Ratio) (stated : Result A Stops) → StopsAs ended stated → IfOk ended (λ r. outcomes_in r ≡ rows)
-        → Gives (λ report. report.items) result (report_or names.now rows stated) }
+/// The report of the total and the rows of a run.
+pub fn written(alloc: Global, names: &Names, rows: &Rows<Cyclo>) -> Result<Vec<u8>, Stop>
+    ensures { Gives (λ report. report.items) result (Ok (report_of names.now (outcomes_in rows.now))) }
 {
-    let rows = match ended {
-        Ok(rows) => rows,
-        Err(RunFault::Stop(stop)) => return Err(stop_line(alloc, stop)),
-        Err(RunFault::Memory) => return Err(Stop::Memory),
-    };
     let mut out = Vec::new(alloc);
-    match report(alloc, names, &rows, &mut out) {
+    match report(alloc, names, rows, &mut out) {
         Ok(()) => Ok(out),
         Err(_) => Err(Stop::Memory),
     }

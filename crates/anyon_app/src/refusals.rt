@@ -1,8 +1,8 @@
 // The lines of refusals and limits.
-ghost use Rattle.std.specs.Prelude.{◌≡◌, ◌∷◌, IfOk, map, string_bytes};
+ghost use Rattle.std.specs.Prelude.{◌≡◌, ◌∷◌, [], IfOk, codes, map, slice_index_or, string_bytes};
 ghost use Rattle.anyon_app.specs.Stages.{StopsWith};
-ghost use Rattle.anyon_app.specs.Refusals.{category_line, comb_start_line, event_line, event_words, program_line, refused_line, rules_line, schedule_line, stop_line, too_long, turn_line};
-ghost use Rattle.anyon_app.specs.Lines.{line_of};
+ghost use Rattle.anyon_app.specs.Refusals.{category_line, comb_start_line, event_line, event_words, kind_word, program_line, refused_line, rules_line, schedule_line, stop_line, too_long, turn_line};
+ghost use Rattle.anyon_app.specs.Lines.{line_of, refusal_of};
 
 use crate::causes::{category_words, line_words};
 use crate::stop::{Stop, limit, refusal};
@@ -86,22 +86,27 @@ fn turn_line(alloc: Global, turn: u32, cause: &'static str) -> Stop
     refusal(alloc, &[Kind::Schedule.word(), "turn", turn, cause])
 }
 
-/// The stop at a schedule that ends before this site has taken its commands.
-fn unfinished_line(alloc: Global, sites: &[Site], site: u8) -> Stop
-    ensures { StopsWith (schedule_line (map (λ s. string_bytes s.name) sites.now) (ScheduleFault.Unfinished site)) result }
+/// The name of a site, empty where there is none.
+fn site_name(sites: &[Site], site: u8) -> &str
+    ensures { result.now ≡ slice_index_or (map (λ s. string_bytes s.name) sites.now) site [] }
 {
     match sites.get(site as usize) {
-        Some(site) => refusal(
-            alloc,
-            &[Kind::Schedule.word(), "unfinished", site.name.as_str()],
-        ),
-        None => refusal(alloc, &[Kind::Schedule.word(), "unfinished", ""]),
+        Some(site) => site.name.as_str(),
+        None => "",
     }
+}
+
+/// The stop at a schedule that ends before the site of this name has taken its commands.
+fn unfinished_line(alloc: Global, name: &str) -> Stop
+    ensures { StopsWith (refusal_of (kind_word Kind.Schedule ∷ codes "unfinished" ∷ name.now ∷ [])) result }
+{
+    refusal(alloc, &["schedule", "unfinished", name])
 }
 
 /// The stop at the first fault of a schedule text of a program with these sites.
 pub fn schedule_line(alloc: Global, sites: &[Site], fault: ScheduleFault) -> Stop
-    ensures { StopsWith (schedule_line (map (λ s. string_bytes s.name) sites.now) fault) result }
+    ensures line { StopsWith (schedule_line (map (λ s. string_bytes s.name) sites.now) fault) result }
+    ensures memory { fault ≡ ScheduleFault.Memory → result ≡ Stop.Memory }
 {
     match fault {
         ScheduleFault::Line(fault) => {
@@ -111,7 +116,7 @@ pub fn schedule_line(alloc: Global, sites: &[Site], fault: ScheduleFault) -> Sto
         ScheduleFault::UnknownSite { turn } => turn_line(alloc, turn, "unknown site"),
         ScheduleFault::TooMany { turn } => turn_line(alloc, turn, "too many"),
         ScheduleFault::Early { turn } => turn_line(alloc, turn, "early"),
-        ScheduleFault::Unfinished { site } => unfinished_line(alloc, sites, site),
+        ScheduleFault::Unfinished { site } => unfinished_line(alloc, site_name(sites, site)),
         ScheduleFault::Memory => Stop::Memory,
     }
 }
