@@ -56,13 +56,7 @@ pub fn run<R: StarRing>(
     rows(category);
     let turns = turns_of(alloc, plan, schedule)?;
     let start = begin(alloc, category, &plan.start)?;
-    rows_from(
-        alloc,
-        category,
-        start,
-        turns.letters.as_slice(),
-        turns.places,
-    )
+    rows_from(alloc, category, start, &turns)
 }
 
 /// The live words at the end of a plan, run on trees from its start under a legal schedule, in the order of lists of labels: one
@@ -88,11 +82,5 @@ pub fn trees<R: StarRing>(
     rows(category);
     let turns = turns_of(alloc, plan, schedule)?;
     let start = begin(alloc, category, &plan.start)?;
-    ends_from(
-        alloc,
-        category,
-        start,
-        turns.letters.as_slice(),
-        turns.places,
-    )
+    ends_from(alloc, category, start, &turns)
 }
