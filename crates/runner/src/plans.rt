@@ -1,6 +1,6 @@
 //! Runs of plans under a schedule.
 
-ghost use Rattle.std.specs.Prelude.{◌≡◌, IfOk};
+ghost use Rattle.std.specs.Prelude.{◌≡◌, ◌<◌, length, IfOk};
 ghost use Rattle.std.specs.List.{AllByRecursion};
 ghost use Rattle.fusion_rules.specs.Fusion.{fuses};
 ghost use Rattle.symbol_table.specs.Category.{symbols};
@@ -74,6 +74,8 @@ pub fn trees<R: StarRing>(
     requires legal { IsLegal (program_of plan.now) schedule.now.turns.items }
     // Every state is one of the category, over as many strands as the start.
     ensures states { IfOk result (λ ends. AllByRecursion (λ l. IsTreeState (symbols R.StarRing category.now) (size (labelled plan.now.start)) l.state) ends.items) }
+    // There is at least one.
+    ensures some { IfOk result (λ ends. 0 < length ends.items) }
     // It stops exactly where the stated evaluation does.
     ensures stated { let c = symbols R.StarRing category.now in
         Runs (λ ends. lives_of (λ s. s) ends.items) result (scheduled_ends c (program_of plan.now) schedule.now.turns.items) }
