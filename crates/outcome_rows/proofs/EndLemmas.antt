@@ -1,8 +1,8 @@
 -- The ends of letters, sorted and weighed.
-use Rattle.std.proofs.Common.{◌≡◌, ℕ, ◌+◌, Bool, true, false, List, [], ◌∷◌, length, Option, Some, None, refl, ap, sym, ◌∙◌}
-use Rattle.std.specs.Prelude.{if◌then◌else◌, ◌&&◌, is_ok, is_some, IsOk, IsPermutation, Result, Ok, Err}
+use Rattle.std.proofs.Common.{◌≡◌, ℕ, ◌+◌, ◌<◌, Bool, true, false, List, [], ◌∷◌, length, Option, Some, None, refl, ap, sym, ◌∙◌, arith}
+use Rattle.std.specs.Prelude.{if◌then◌else◌, ◌&&◌, is_ok, is_some, IfOk, IsOk, IsPermutation, Result, Ok, Err}
 use Rattle.std.specs.Cmp.{both_ways}
-use Rattle.std.proofs.lemmas.List.Sorted.{All-permutation, IsPermutation-sym}
+use Rattle.std.proofs.lemmas.List.Sorted.{All-permutation, IsPermutation-sym, length_permutation}
 use Rattle.std.proofs.lemmas.List.Sums.{AllPass-from_list_all, list_all-from_AllPass}
 use Rattle.ring_laws.specs.Stated.{◌>>=◌, steps_over}
 use Rattle.program_text.specs.declared.letter.Letter.{Letter}
@@ -82,3 +82,12 @@ pub ends_ordered : {V M : Type 0} (view : V → List (Live M)) (r : Result V Run
 ends_ordered {V} {M} view (Ok value) stated count m is same =
     ap (λ (x : Result (List (Live M)) RunStop). x >>> λ ends. Ok (in_word_order count m ends)) is.1 ∙ (λ j. Ok (sym (same is.0 (view value) is.1 is.2) j))
 ends_ordered {V} {M} view (Err fault) stated count m is same = stops_through fault stated (λ (ends : List (Live M)). Ok (in_word_order count m ends)) is
+
+-- and there are as many as are stated
+pub ends_some : {V M : Type 0} (view : V → List (Live M)) (r : Result V RunFault) (stated : Result (List (Live M)) RunStop) → RunsSorted view r stated
+    → ((live : List (Live M)) → stated ≡ Ok live → 0 < length live) → IfOk r (λ v. 0 < length (view v))
+ends_some view (Ok value) stated is some =
+    let same : length (view value) ≡ length is.0 = length_permutation is.0 (view value) is.2.permutation in
+    let low : 0 < length is.0 = some is.0 is.1 in
+    omega arith
+ends_some view (Err fault) stated is some = tt

@@ -1,7 +1,9 @@
 -- Worked values, on two qubits and on numbers, and one run that meets every premise of the law of outcomes.
-use Rattle.std.proofs.Common.{◌≡◌, ℕ, ◌+◌, List, [], ◌∷◌, Option, Some, None, refl, arith}
-use Rattle.std.specs.Prelude.{if◌then◌else◌, ◌==◌, Result, Ok, Err}
+use Rattle.std.proofs.Common.{◌≡◌, ℕ, zero, suc, ◌+◌, List, [], ◌∷◌, Option, Some, None, refl, arith}
+use Rattle.std.specs.Prelude.{if◌then◌else◌, ◌==◌, IsSortedByKey, Result, Ok, Err}
 use Rattle.comb_laws.specs.Plans.{Outcomes}
+use Rattle.std.proofs.lemmas.List.Sorted.{IsPermutation-refl}
+use Rattle.program_text.specs.Letters.{letters}
 use Rattle.program_text.specs.declared.letter.Letter.{Letter}
 use Rattle.program_text.specs.declared.plan.Command.{Command}
 use Rattle.program_text.specs.declared.plan.Command.TheVariants.{Measure}
@@ -9,16 +11,19 @@ use Rattle.word_runs.specs.Runs.{Live, ◌>>>◌, run_of, start_word}
 use Rattle.word_runs.specs.declared.fault.RunStop.{RunStop}
 use Rattle.word_runs.specs.declared.fault.RunStop.TheVariants.{Overflow}
 use Rattle.run_laws.specs.Meaning.{words_of}
+use Rattle.run_laws.specs.Rows.{word_cmp}
+use Rattle.run_laws.proofs.EndMeaning.{text_ends}
 use Rattle.run_laws.specs.Schedules.{site_letters}
 use Rattle.run_laws.specs.TwoQubits.{Pair, stands, two_acts, two_faithful, two_nought, two_rising, two_shapes, two_told, two_weighing, two_weight}
 use Rattle.run_laws.specs.Turns.{in_text, turns}
 use Rattle.run_laws.proofs.Worked.{sites, start}
 use Rattle.outcome_rows.specs.Commands.{AreRunnable}
-use Rattle.outcome_rows.specs.Ends.{weighed_ends}
+use Rattle.outcome_rows.specs.Ends.{AreOutcomesOf, weighed_ends}
 use Rattle.outcome_rows.specs.Evaluated.{ends_from, evaluation_of, rows_at}
-use Rattle.outcome_rows.specs.WordOrder.{in_word_order}
+use Rattle.outcome_rows.specs.WordOrder.{AreSorted, in_word_order}
 use Rattle.outcome_rows.specs.Outcomes.{outcomes_of_plan}
 use Rattle.outcome_rows.proofs.OutcomeLemmas.{ends_in_outcomes}
+use Rattle.outcome_rows.proofs.WordLemmas.{sorted_in_word_order}
 
 abbrev begun : Pair
 begun = record { gap = 2; vector = start }
@@ -64,6 +69,35 @@ mixed_ends = refl
 
 mixed_stops : ((weighed_ends two_told (λ s. if s.gap == 2 then None else weigh s) 2 mixed begun ≡ Err (Overflow 0)) × (weighed_ends two_told (λ s. if s.gap == 3 then None else weigh s) 2 mixed begun ≡ Err (Overflow 6)))
 mixed_stops = (refl, refl)
+
+-- its outcomes, and that the live words stand in word order
+abbrev mixed_live : List (Live Pair)
+mixed_live =
+    record { word = 0 ∷ 0 ∷ []; state = record { gap = 3; vector = record { first = record { none = 3; one = 0 }; second = record { none = 5; one = 0 } } } }
+    ∷ record { word = 1 ∷ 1 ∷ []; state = record { gap = 3; vector = record { first = record { none = 0; one = 2 }; second = record { none = 0; one = 5 } } } }
+    ∷ []
+
+in_order : AreSorted mixed_live mixed_live
+in_order = record { permutation = IsPermutation-refl mixed_live; order = sorted }
+  where
+    sorted : IsSortedByKey (λ (l : Live Pair). l.word) word_cmp mixed_live
+    sorted zero e low high = refl
+    sorted (suc k) e low high = absurd (omega arith)
+
+mixed_outcomes : AreOutcomesOf two_told weigh (λ x. x == 0) 2 mixed begun found
+mixed_outcomes = record {
+  total = refl;
+  rows = record {
+    live = mixed_live;
+    ends = refl;
+    rows = record { sorted = mixed_live; permutation = in_order.permutation; order = in_order.order; all = found.rows; fit = refl; are = refl };
+  };
+}
+
+mixed_in_order : mixed_live ≡ in_word_order 2 2 mixed_live
+mixed_in_order =
+    sorted_in_word_order 2 two_acts (λ v. Unit {0}) two_nought stands 2 (letters 0 (in_text sites)) start mixed_live mixed_live
+    (text_ends two_told two_shapes 2 two_acts (λ v. Unit {0}) two_nought stands two_faithful (in_text sites) begun start mixed_live runnable.gaps runnable.timely tt refl refl) in_order
 
 -- where two sites measure and the second is first, its outcomes come first among the live words as they are made, and are put
 -- in order

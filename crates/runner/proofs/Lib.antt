@@ -1,4 +1,6 @@
 pub mod OutcomeLemmas
+pub mod RunLemmas
+pub mod SomeLemmas
 pub mod StepLemmas
 pub mod TurnLemmas
 mod Worked

@@ -1,13 +1,16 @@
 -- Whatever the schedule, the outcomes of a run are those of the plan, and its live words are those in word order.
-use Rattle.std.proofs.Common.{◌≡◌, ℕ, ◌≤◌, Bool, true, false, List, [], ◌∷◌, refl, sym, subst}
+use Rattle.std.proofs.Common.{◌≡◌, ℕ, ◌≤◌, Bool, true, false, List, [], ◌∷◌, refl, sym, subst, arith}
 use Rattle.std.specs.Prelude.{Ok}
 use Rattle.std.specs.List.Sorted.{IsStrictlySortedBy}
 use Rattle.ring_laws.specs.Ring.{RingLaws}
 use Rattle.symbol_table.specs.Symbols.{Symbols}
 use Rattle.tree_shapes.specs.Labelled.{Labelled, is_admissible, leaves, node_labels, size}
-use Rattle.program_text.specs.Letters.{letters, measurements}
+use Rattle.program_text.specs.Letters.{gap_of, letters, measurements}
 use Rattle.program_text.specs.WellFormed.{commands_in}
+use Rattle.word_runs.specs.Lives.{IsFit}
 use Rattle.word_runs.specs.Runs.{run_of, start_word}
+use Rattle.word_runs.specs.Told.{IsGap}
+use Rattle.word_runs.proofs.EachLemmas.{all_map}
 use Rattle.comb_laws.specs.Amplitudes.{start_vector}
 use Rattle.comb_laws.specs.Operators.{weight}
 use Rattle.comb_laws.specs.Plans.{Outcomes, outcomes_of}
@@ -30,9 +33,12 @@ use Rattle.charge_project.specs.Weights.{stated_weight}
 use Rattle.runner.specs.Evaluated.{own_state}
 use Rattle.runner.specs.EngineFacts.{engine_far, engine_faithful, engine_weighing}
 use Rattle.runner.specs.Meaning.{AreLawful, IsLawfulVector, StandsFor}
-use Rattle.runner.specs.Outcomes.{SchedulesEndInOrder, SchedulesEndInOutcomes}
+use Rattle.runner.specs.Outcomes.{SchedulesEndInOrder, SchedulesEndInOutcomes, SchedulesLeaveSome}
 use Rattle.runner.specs.Shapes.{tree_shapes}
 use Rattle.runner.specs.Trees.{tree_told}
+use Rattle.runner.proofs.RunLemmas.{run_kept}
+use Rattle.runner.proofs.SomeLemmas.{HasSome, keeps_some}
+use Rattle.runner.proofs.TurnLemmas.{turns_fit}
 
 module _ {E : Type 0} (c : Symbols E) (laws : RingLaws c.ring c.held) (lawful : AreLawful c) where
   -- one isn't zero
@@ -88,3 +94,14 @@ module _ {E : Type 0} (c : Symbols E) (laws : RingLaws c.ring c.held) (lawful : 
       subst (λ cs. sorted ≡ in_word_order c.count (measurements cs) live) run.text
       (sorted_in_word_order c.count (comb_acts c) (IsLawfulVector c n) (comb_nought c) (StandsFor c n) (measurements (in_text (commands_of p.sites))) (letters 0 (in_text (commands_of p.sites)))
       (leaves p.start, start_vector c p.start) live sorted are of)
+
+  pub schedules_leave_some : SchedulesLeaveSome c
+  schedules_leave_some p schedule live is legal ended =
+      let n = size p.start in
+      let s = own_state c.ring p.start in
+      let stands = start_stands p.start is.start.some is.start.admissible in
+      let fit = turns_fit c p schedule is legal in
+      let kept = run_kept (tree_told c n) (tree_shapes c n) (HasSome c n) (keeps_some c laws lawful n) 1 (turns (letters_in p) schedule) (start_word (measurements (commands_in p.sites)) s) live
+      (all_map (IsFit (tree_told c n) (measurements (commands_in p.sites))) (λ l. IsGap (tree_told c n) (gap_of l)) (turns (letters_in p) schedule) (λ l f. f.gap) fit) ended
+      (record { some = omega arith; shape = s.shape; same = (refl, tt); all = (record { of = stands.of; amps = stands.amps; some = λ e. absurd (cc) }, tt) }) in
+      kept.some

@@ -1,5 +1,5 @@
 -- What the runs of programs mean, whatever the schedule.
-use Rattle.std.specs.Prelude.{◌≡◌, ℕ, List, Ok}
+use Rattle.std.specs.Prelude.{◌≡◌, ◌<◌, ℕ, List, length, Ok}
 use Rattle.symbol_table.specs.Symbols.{Symbols}
 use Rattle.tree_shapes.specs.Labelled.{size}
 use Rattle.program_text.specs.Letters.{measurements}
@@ -34,3 +34,8 @@ abbrev pub SchedulesEndInOrder : {E : Type 0} → Symbols E → Type 0
 SchedulesEndInOrder {E} c =
     (p : Program) (schedule : List ℕ) (live sorted : List (Live (State E))) → IsProgram c.fuse c.count p → IsLegal p schedule
     → made_ends c p schedule ≡ Ok live → AreSorted live sorted → sorted ≡ in_word_order c.count (measurements (commands_in p.sites)) live
+
+-- And there is at least one.
+abbrev pub SchedulesLeaveSome : {E : Type 0} → Symbols E → Type 0
+SchedulesLeaveSome {E} c =
+    (p : Program) (schedule : List ℕ) (live : List (Live (State E))) → IsProgram c.fuse c.count p → IsLegal p schedule → made_ends c p schedule ≡ Ok live → 0 < length live

@@ -1,4 +1,4 @@
-//! Runs of letters from a tree.
+//! Runs of turns from a tree.
 
 ghost use Rattle.std.specs.Prelude.{◌≡◌, ◌<◌, ◌≤◌, ◌^◌, length, IfOk, true};
 ghost use Rattle.std.specs.List.{AllByRecursion};
@@ -17,9 +17,9 @@ ghost use Rattle.runner.specs.Trees.{IsTreeState, tree_told};
 ghost use Rattle.runner.specs.Evaluated.{own_state};
 
 use crate::engine::TreeEngine;
+use crate::turns::Turns;
 use charge_project::weight;
 use outcome_rows::{Rows, letter_outcomes, sorted_ends};
-use program_text::Letter;
 use recouple::{TreeState, start};
 use ring_laws::StarRing;
 use std::alloc::{AllocError, Global};
@@ -53,55 +53,56 @@ fn strands_of<R: StarRing>(state: &TreeState<R>) -> u8
     state.shape().leaves()
 }
 
-/// The total and the rows of letters from a state.
+/// The total and the rows of turns from a state.
 pub(crate) fn rows_from<R: StarRing>(
     alloc: Global,
     category: &Category<R>,
     state: TreeState<R>,
-    letters: &[Letter],
-    places: u32,
+    turns: &Turns,
 ) -> Result<Rows<R>, RunFault>
     requires state { IsTreeState (symbols R.StarRing category.now) (length state.strands) state }
-    requires fit { AllByRecursion (IsFit (tree_told (symbols R.StarRing category.now) (length state.strands)) places) letters.now }
-    requires few { length letters.now < 2 ^ 31 }
+    requires fit { AllByRecursion (IsFit (tree_told (symbols R.StarRing category.now) (length state.strands)) turns.now.places) turns.now.letters.items }
+    requires few { length turns.now.letters.items < 2 ^ 31 }
     ensures stated { let c = symbols R.StarRing category.now in
-        StopsAs result (weighed_ends (tree_told c (length state.strands)) (stated_weight c) places letters.now state) }
+        StopsAs result (weighed_ends (tree_told c (length state.strands)) (stated_weight c) turns.now.places turns.now.letters.items state) }
     ensures outcomes { let c = symbols R.StarRing category.now in
-        IfOk result (λ rows. AreOutcomesOf (tree_told c (length state.strands)) (stated_weight c) c.held.is_zero places letters.now state (outcomes_in rows)) }
+        IfOk result (λ rows. AreOutcomesOf (tree_told c (length state.strands)) (stated_weight c) c.held.is_zero turns.now.places turns.now.letters.items state (outcomes_in rows)) }
 {
     let engine = TreeEngine {
         category,
         strands: strands_of(&state),
     };
+    let letters = turns.letters.as_slice();
+    let weigh = |end: &TreeState<R>| weight(category, end);
     letter_outcomes(
         alloc,
         &engine,
         category.ring(),
         letters,
-        places,
+        turns.places,
         state,
-        |end| { weight(category, end) },
+        weigh,
     )
 }
 
-/// The live words at the end of letters from a state, in the order of lists of labels.
+/// The live words at the end of turns from a state, in the order of lists of labels.
 pub(crate) fn ends_from<R: StarRing>(
     alloc: Global,
     category: &Category<R>,
     state: TreeState<R>,
-    letters: &[Letter],
-    places: u32,
+    turns: &Turns,
 ) -> Result<Vec<LiveWord<TreeState<R>>>, RunFault>
     requires state { IsTreeState (symbols R.StarRing category.now) (length state.strands) state }
-    requires fit { AllByRecursion (IsFit (tree_told (symbols R.StarRing category.now) (length state.strands)) places) letters.now }
-    requires few { length letters.now < 2 ^ 31 }
+    requires fit { AllByRecursion (IsFit (tree_told (symbols R.StarRing category.now) (length state.strands)) turns.now.places) turns.now.letters.items }
+    requires few { length turns.now.letters.items < 2 ^ 31 }
     ensures states { IfOk result (λ ends. AllByRecursion (λ l. IsTreeState (symbols R.StarRing category.now) (length state.strands) l.state) ends.items) }
     ensures stated { let c = symbols R.StarRing category.now in
-        RunsSorted (λ ends. lives_of (λ s. s) ends.items) result (run_of (tree_told c (length state.strands)) 1 letters.now (start_word places state)) }
+        RunsSorted (λ ends. lives_of (λ s. s) ends.items) result (run_of (tree_told c (length state.strands)) 1 turns.now.letters.items (start_word turns.now.places state)) }
 {
     let engine = TreeEngine {
         category,
         strands: strands_of(&state),
     };
-    sorted_ends(alloc, &engine, letters, places, state)
+    let letters = turns.letters.as_slice();
+    sorted_ends(alloc, &engine, letters, turns.places, state)
 }

@@ -1,6 +1,6 @@
 //! Runs of plans under a schedule.
 
-ghost use Rattle.std.specs.Prelude.{◌≡◌, IfOk};
+ghost use Rattle.std.specs.Prelude.{◌≡◌, ◌<◌, length, IfOk};
 ghost use Rattle.std.specs.List.{AllByRecursion};
 ghost use Rattle.fusion_rules.specs.Fusion.{fuses};
 ghost use Rattle.symbol_table.specs.Category.{symbols};
@@ -56,13 +56,7 @@ pub fn run<R: StarRing>(
     rows(category);
     let turns = turns_of(alloc, plan, schedule)?;
     let start = begin(alloc, category, &plan.start)?;
-    rows_from(
-        alloc,
-        category,
-        start,
-        turns.letters.as_slice(),
-        turns.places,
-    )
+    rows_from(alloc, category, start, &turns)
 }
 
 /// The live words at the end of a plan, run on trees from its start under a legal schedule, in the order of lists of labels: one
@@ -80,6 +74,8 @@ pub fn trees<R: StarRing>(
     requires legal { IsLegal (program_of plan.now) schedule.now.turns.items }
     // Every state is one of the category, over as many strands as the start.
     ensures states { IfOk result (λ ends. AllByRecursion (λ l. IsTreeState (symbols R.StarRing category.now) (size (labelled plan.now.start)) l.state) ends.items) }
+    // There is at least one.
+    ensures some { IfOk result (λ ends. 0 < length ends.items) }
     // It stops exactly where the stated evaluation does.
     ensures stated { let c = symbols R.StarRing category.now in
         Runs (λ ends. lives_of (λ s. s) ends.items) result (scheduled_ends c (program_of plan.now) schedule.now.turns.items) }
@@ -88,11 +84,5 @@ pub fn trees<R: StarRing>(
     rows(category);
     let turns = turns_of(alloc, plan, schedule)?;
     let start = begin(alloc, category, &plan.start)?;
-    ends_from(
-        alloc,
-        category,
-        start,
-        turns.letters.as_slice(),
-        turns.places,
-    )
+    ends_from(alloc, category, start, &turns)
 }
