@@ -45,9 +45,7 @@ pub fn program_line(alloc: Global, line: u32, cause: ProgramCause) -> Stop
     ensures { StopsWith (program_line line cause) result }
 {
     match cause {
-        ProgramCause::Line(cause) => {
-            refused_line(alloc, Kind::Program, line, line_words(cause))
-        }
+        ProgramCause::Line(cause) => { refused_line(alloc, Kind::Program, line, line_words(cause)) }
         ProgramCause::Header => refused_line(alloc, Kind::Program, line, "header"),
         ProgramCause::Start => refused_line(alloc, Kind::Program, line, "start"),
         ProgramCause::UnknownLabel => refused_line(alloc, Kind::Program, line, "unknown label"),

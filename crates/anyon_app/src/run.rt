@@ -50,7 +50,6 @@ pub fn run_by<S: Shelf>(
     rows(alloc, &admitted, &plan, &schedule)
 }
 
-
 // The report of the rows.
 fn rows(
     alloc: Global,
