@@ -14,6 +14,9 @@ const FIB_TAIL: &str = "r t t 1 0,0,0,1\nr t t t 1,1,1,1\nw t t 1 -1,0,-1,-1\nv 
 // A left-combed start of four strands, and the charge of the two in the middle.
 const MEASURED: &str = "program 1\nstart (((t t):1 t):t t):1\nmeasure 2\n";
 
+// The one turn of its one site.
+const TURN: &str = "schedule 1\nmain\n";
+
 const ROWS: &str = "total 2,0,1,1\noutcome 1 weight 5,0,3,3\noutcome t weight -3,0,-2,-2\n";
 
 fn joined(alloc: Global, first: &str, second: &str) -> Result<Vec<u8>, AllocError> {
@@ -22,7 +25,7 @@ fn joined(alloc: Global, first: &str, second: &str) -> Result<Vec<u8>, AllocErro
     Ok(text)
 }
 
-// The category and the program, as the texts CAT and PROG.
+// The category, the program and a schedule, as the texts CAT, PROG and SCHED.
 fn files(alloc: Global) -> Result<Vec<(String, Vec<u8>)>, AllocError> {
     let mut files = Vec::new(alloc);
     files.push((
@@ -33,6 +36,7 @@ fn files(alloc: Global) -> Result<Vec<(String, Vec<u8>)>, AllocError> {
         String::from_str(alloc, "PROG")?,
         joined(alloc, MEASURED, "")?,
     ))?;
+    files.push((String::from_str(alloc, "SCHED")?, joined(alloc, TURN, "")?))?;
     Ok(files)
 }
 
@@ -56,6 +60,7 @@ fn no_words(rt: HostRuntime) -> Result<(), Fail> {
 #[test]
 fn faults(rt: HostRuntime) -> Result<(), Fail> {
     let alloc = rt.alloc();
+    fail_each(&rt, alloc, "run CAT PROG SCHED", ROWS.as_bytes())?;
     fail_each(&rt, alloc, "comb CAT PROG", ROWS.as_bytes())?;
     fail_each(&rt, alloc, "check CAT", b"accepted root 5 labels 2\n")?;
     fail_each(&rt, alloc, "format CAT", &joined(alloc, FIB, FIB_TAIL)?)?;
@@ -99,10 +104,19 @@ fn fail_each(rt: &impl Abort, alloc: Global, line: &str, bytes: &[u8]) -> Result
 fn long_texts(rt: HostRuntime) -> Result<(), Fail> {
     let alloc = rt.alloc();
     let too_long = "refused category too long\n";
-    let not_built = "refused not built program\n";
+    let long_program = "refused program too long\n";
+    let long_schedule = "refused schedule too long\n";
     for (line, place, size, status, bytes) in [
         ("comb CAT PROG", 0, 4_194_304, Status::Done, ROWS),
-        ("comb CAT PROG", 1, 4_194_305, Status::Refused, not_built),
+        ("comb CAT PROG", 1, 4_194_305, Status::Refused, long_program),
+        ("run CAT PROG SCHED", 2, 4_194_304, Status::Done, ROWS),
+        (
+            "run CAT PROG SCHED",
+            2,
+            4_194_305,
+            Status::Refused,
+            long_schedule,
+        ),
         ("check CAT", 0, 4_194_305, Status::Refused, too_long),
         ("format CAT", 0, 4_194_305, Status::Refused, too_long),
     ] {

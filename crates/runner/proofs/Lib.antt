@@ -1,3 +1,4 @@
+pub mod MeanLemmas
 pub mod OutcomeLemmas
 pub mod RunLemmas
 pub mod SomeLemmas

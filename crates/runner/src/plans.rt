@@ -15,6 +15,7 @@ ghost use Rattle.site_schedule.specs.Legal.{IsLegal};
 ghost use Rattle.outcome_rows.specs.Ends.{StopsAs};
 ghost use Rattle.outcome_rows.specs.Rows.{outcomes_in};
 ghost use Rattle.runner.specs.Evaluated.{scheduled_ends, scheduled_weights};
+ghost use Rattle.runner.specs.Outcomes.{AreWordsOf};
 ghost use Rattle.runner.specs.Trees.{IsTreeState};
 
 use crate::ends::{begin, ends_from, rows_from};
@@ -74,6 +75,9 @@ pub fn trees<R: StarRing>(
     requires legal { IsLegal (program_of plan.now) schedule.now.turns.items }
     // Every state is one of the category, over as many strands as the start.
     ensures states { IfOk result (λ ends. AllByRecursion (λ l. IsTreeState (symbols R.StarRing category.now) (size (labelled plan.now.start)) l.state) ends.items) }
+    // Each stands for the vector of its word by the comb operators in the order of the text, and every word whose vector isn't
+    // zero is there.
+    ensures words { let c = symbols R.StarRing category.now in IfOk result (λ ends. AreWordsOf c (program_of plan.now) (lives_of (λ s. s) ends.items)) }
     // There is at least one.
     ensures some { IfOk result (λ ends. 0 < length ends.items) }
     // It stops exactly where the stated evaluation does.

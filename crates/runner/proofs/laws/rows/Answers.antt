@@ -1,6 +1,6 @@
 use Rattle.symbol_table.specs.Category.{draft_symbols}
 use Rattle.runner.specs.Meaning.{AreLawful}
-use Rattle.runner.proofs.OutcomeLemmas.{schedules_end, schedules_in_order, schedules_leave_some}
+use Rattle.runner.proofs.OutcomeLemmas.{schedules_end, schedules_in_order, schedules_leave_some, schedules_mean_words}
 use Rattle.runner.proofs.laws.rows.Goals as goal
 
 pub returns : goal.returns
@@ -10,4 +10,4 @@ returns g c =
     let laws = g.met.R.StarRing.laws draft.ring in
     let all = c.all_labels.ensures in
     let lawful : AreLawful s = record { proper = all.proper; unit = all.unit; weighted = all.weighted; equations = all.equations } in
-    record { outcomes = schedules_end s laws lawful; order = schedules_in_order s laws lawful; some = schedules_leave_some s laws lawful }
+    record { outcomes = schedules_end s laws lawful; order = schedules_in_order s laws lawful; words = schedules_mean_words s laws lawful; some = schedules_leave_some s laws lawful }

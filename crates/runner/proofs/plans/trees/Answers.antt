@@ -14,7 +14,9 @@ use Rattle.outcome_rows.specs.Ends.{RunsSorted}
 use Rattle.outcome_rows.proofs.EndLemmas.{ends_ordered, ends_some}
 use Rattle.outcome_rows.proofs.RowLemmas.{if_ok_map}
 use Rattle.runner.specs.Evaluated.{made_ends}
+use Rattle.runner.specs.Outcomes.{AreWordsOf}
 use Rattle.runner.specs.Trees.{IsTreeState, tree_told}
+use Rattle.runner.proofs.MeanLemmas.{ends_mean}
 use Rattle.runner.proofs.TurnLemmas.{turns_few, turns_fit}
 use Rattle.runner.proofs.plans.trees.Goals as goal
 
@@ -45,6 +47,16 @@ returns-clause-some g c =
     (ends_some (λ ends. lives_of (λ (y : State g.row.R-Elem.Denot). y) ends.items) c.ends_from.result (made_ends s p schedule) sorted
     (λ live ends. c.rows.ensures.some p schedule live c.requires.program c.requires.legal ends))
     (λ ends low. subst (λ (n : ℕ). 0 < n) (length-map ends.items (live_of (λ (y : State g.row.R-Elem.Denot). y))) low)
+
+pub returns-clause-words : goal.returns-clause-words
+returns-clause-words g c =
+    let s = draft_symbols (g.R.StarRing.ring c.args.category.now.ring) g.R.StarRing.held c.args.category.now in
+    let p = program_of c.args.plan.now in
+    let schedule = c.args.schedule.now.turns.items in
+    let sorted = subst (λ (x : ℕ × ℕ × List Letter × State g.row.R-Elem.Denot). RunsSorted (λ ends. lives_of (λ (y : State g.row.R-Elem.Denot). y) ends.items) c.ends_from.result (run_of (tree_told s x.0) 1 x.2 (start_word x.1 x.3)))
+    (λ j. (c.in_ok-start.ensures.state.long j, c.in_ok-turns.ensures.places j, c.in_ok-turns.ensures.letters j, c.in_ok-start.ensures.value j)) c.ends_from.ensures.stated in
+    ends_mean (λ ends. lives_of (λ (y : State g.row.R-Elem.Denot). y) ends.items) c.ends_from.result (made_ends s p schedule) (AreWordsOf s p) sorted
+    (λ live again ends are. c.rows.ensures.words p schedule live again c.requires.program c.requires.legal ends are)
 
 pub returns-clause-stated : goal.returns-clause-stated
 returns-clause-stated g c =
