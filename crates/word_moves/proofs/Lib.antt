@@ -1,2 +1,4 @@
 pub mod Worked
 pub mod LetterLemmas
+pub mod FrontLemmas
+pub mod EndLemmas

@@ -1,5 +1,5 @@
 -- Moves of braid letters.
-use Rattle.std.specs.Prelude.{◌≡◌, ℕ, ◌+◌, ◌-◌, List, [], ◌∷◌, ◌++◌, Bool, true, false, not, ◌&&◌, ◌||◌, ◌==◌, nat_lt, nat_le, length, take, drop, if◌then◌else◌, Option, Some, None, option_map}
+use Rattle.std.specs.Prelude.{ℕ, ◌+◌, ◌-◌, List, [], ◌∷◌, ◌++◌, Bool, true, false, not, ◌&&◌, ◌||◌, ◌==◌, nat_lt, nat_le, length, take, drop, if◌then◌else◌, Option, Some, None, option_map}
 use Rattle.std.specs.List.{filter}
 use Rattle.program_text.specs.Letters.{letters}
 use Rattle.program_text.specs.Program.{Program}

@@ -1,5 +1,5 @@
 -- What a list of moves makes of the letters of a program, and whether these are then another's.
-use Rattle.std.specs.Prelude.{◌≡◌, ℕ, ◌+◌, List, [], ◌∷◌, Bool, true, false, ◌&&◌, ◌==◌, if◌then◌else◌, Option, Some, None, Result, Ok, Err}
+use Rattle.std.specs.Prelude.{◌≡◌, ℕ, ◌+◌, List, [], ◌∷◌, Bool, false, ◌&&◌, ◌==◌, if◌then◌else◌, Option, Some, None, Result, Ok, Err}
 use Rattle.tree_shapes.specs.Labelled.{Labelled, Strand, Joined, size}
 use Rattle.program_text.specs.Program.{Program}
 use Rattle.program_text.specs.WellFormed.{IsProgram}

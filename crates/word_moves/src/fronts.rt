@@ -8,12 +8,16 @@ use program_text::{Letter, Sign};
 use std::alloc::AllocError;
 
 /// Takes away a braid and its inverse.
+#[tactic(auto, using(crate::proofs::FrontLemmas::cancel_short, crate::proofs::FrontLemmas::cancel_not, crate::proofs::FrontLemmas::cancel_is))]
 pub(crate) fn cancel(letters: &mut Vec<Letter>, at: usize) -> bool
     requires { at < 2 ^ 32 }
     ensures moved { behind at cancelled letters.old.items ≡ where_possible result letters.new.items }
     ensures few { length letters.new.items ≤ length letters.old.items + 2 }
 {
-    if letters.len() < at + 2 || !are_inverse(letters[at], letters[at + 1]) {
+    if letters.len() < at + 2 {
+        return false;
+    }
+    if !are_inverse(letters[at], letters[at + 1]) {
         return false;
     }
     letters.remove(at);
@@ -47,6 +51,7 @@ pub(crate) fn insert(
 }
 
 /// Lets two far braids change places.
+#[tactic(auto, using(crate::proofs::FrontLemmas::exchange_short, crate::proofs::FrontLemmas::exchange_not, crate::proofs::FrontLemmas::exchange_is))]
 pub(crate) fn exchange(letters: &mut [Letter], at: usize) -> bool
     requires { at < 2 ^ 32 }
     ensures moved { behind at exchanged letters.old ≡ where_possible result letters.new }
@@ -66,6 +71,7 @@ pub(crate) fn exchange(letters: &mut [Letter], at: usize) -> bool
 }
 
 /// Lets three braids at neighbouring gaps begin at the other gap.
+#[tactic(auto, using(crate::proofs::FrontLemmas::turn_short, crate::proofs::FrontLemmas::turn_not, crate::proofs::FrontLemmas::turn_is))]
 pub(crate) fn turn(letters: &mut [Letter], at: usize) -> bool
     requires { at < 2 ^ 32 }
     ensures moved { behind at turned letters.old ≡ where_possible result letters.new }

@@ -36,20 +36,23 @@ pub fn linked(alloc: Global, from: &Plan, to: &Plan, moves: &Moves) -> Result<Ve
 }
 
 /// The first place, counted from 1, at which letters differ; a missing letter differs.
+#[tactic(auto, using(crate::proofs::EndLemmas::left_longer, crate::proofs::EndLemmas::right_longer))]
 fn first_different(left: &[Letter], right: &[Letter]) -> Option<u32>
     requires { length left.now < 2 ^ 32 - 1 }
     ensures { result ≡ first_different 1 left.now right.now }
 {
     let mut at = 0;
-    while at < left.len() && at < right.len() {
+    while at < left.len() {
+        if right.len() <= at {
+            return Some(at as u32 + 1);
+        }
         if !same_letter(left[at], right[at]) {
             return Some(at as u32 + 1);
         }
         at += 1;
     }
-    if left.len() == right.len() {
-        None
-    } else {
-        Some(at as u32 + 1)
+    if at < right.len() {
+        return Some(at as u32 + 1);
     }
+    None
 }

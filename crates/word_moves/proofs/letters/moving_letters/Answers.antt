@@ -1,4 +1,4 @@
-use Rattle.std.proofs.Common.{◌∙◌, ap, arith}
+use Rattle.std.proofs.Common.{◌∙◌, arith}
 use Rattle.word_moves.proofs.LetterLemmas.{few_letters, own_commands, site_fits, site_letters}
 use Rattle.word_moves.proofs.letters.moving_letters.Goals as goal
 
