@@ -2,3 +2,5 @@ pub mod Worked
 pub mod LetterLemmas
 pub mod FrontLemmas
 pub mod EndLemmas
+pub mod ReadingLemmas
+pub mod WorkedTexts
