@@ -4,3 +4,4 @@ pub mod FrontLemmas
 pub mod EndLemmas
 pub mod ReadingLemmas
 pub mod WorkedTexts
+pub mod LinkLemmas

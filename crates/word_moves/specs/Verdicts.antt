@@ -1,5 +1,5 @@
 -- What a list of moves makes of the letters of a program, and whether these are then another's.
-use Rattle.std.specs.Prelude.{◌≡◌, ℕ, ◌+◌, List, [], ◌∷◌, Bool, false, ◌&&◌, ◌==◌, if◌then◌else◌, Option, Some, None, Result, Ok, Err}
+use Rattle.std.specs.Prelude.{◌≡◌, ◌↔◌, ℕ, ◌+◌, List, [], ◌∷◌, Bool, false, ◌&&◌, ◌==◌, if◌then◌else◌, Option, Some, None, Result, Ok, Err}
 use Rattle.tree_shapes.specs.Labelled.{Labelled, Strand, Joined, size}
 use Rattle.program_text.specs.Program.{Program}
 use Rattle.program_text.specs.WellFormed.{IsProgram}
@@ -64,3 +64,10 @@ verdict_by (Err number) end = NoMove number
 -- The verdict on two programs and a list of moves.
 abbrev pub verdict_of : Program → Program → List BraidMove → Verdict
 verdict_of p q moves = if same_tree p.start q.start then verdict_by (moves_made (size p.start) 1 moves (moving_letters p)) (moving_letters q) else StartDiffers
+
+-- The verdict is that programs are linked exactly where they have one start tree and the moves lead from the letters of the
+-- one to those of the other.
+abbrev pub LinkedIsMoved : Type 0
+LinkedIsMoved =
+    (p q : Program) (moves : List BraidMove)
+    → (verdict_of p q moves ≡ Linked) ↔ ((p.start ≡ q.start) × (moved_by (size p.start) moves (moving_letters p) ≡ Some (moving_letters q)))

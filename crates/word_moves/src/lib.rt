@@ -12,6 +12,7 @@
 mod fault;
 mod fronts;
 mod header;
+mod laws;
 mod letters;
 mod move_line;
 mod moves;
@@ -24,6 +25,10 @@ mod verdict;
 mod words;
 
 pub use fault::{MovesCause, MovesFault};
+pub use laws::linked_programs;
 pub use moves::{BraidMove, Moves, Verdict};
 pub use reading::read_moves;
 pub use verdict::linked;
+
+#[cfg(test)]
+mod tests;
