@@ -1,0 +1,4 @@
+pub mod Moves
+pub mod Verdicts
+pub mod Reading
+pub mod Answers

@@ -1,0 +1,59 @@
+//! One move, and all of them.
+
+ghost use Rattle.std.specs.Prelude.{◌≡◌, ◌≤◌, ◌<◌, ◌+◌, ◌*◌, ◌^◌, length, IfOk, OnOk};
+ghost use Rattle.word_moves.specs.Moves.{moved, where_possible, place_of};
+ghost use Rattle.word_moves.specs.Verdicts.{made_until, moves_made};
+
+use crate::fronts::{cancel, exchange, insert, turn};
+use crate::moves::BraidMove;
+use program_text::Letter;
+use std::alloc::AllocError;
+
+/// Makes moves one after another, up to the first that isn't possible, and gives its number counted from 1.
+pub(crate) fn make_moves(
+    strands: u8,
+    moves: &[BraidMove],
+    letters: &mut Vec<Letter>,
+) -> Result<Option<u32>, AllocError>
+    requires { length moves.now < 2 ^ 30 }
+    ensures made { IfOk result (λ stop. moves_made strands 1 moves.now letters.old.items ≡ made_until stop letters.new.items) }
+    ensures few { OnOk result (length letters.new.items ≤ length letters.old.items + 2 * length moves.now) }
+{
+    let mut number = 0;
+    for step in moves {
+        number += 1;
+        if !make_move(strands, *step, letters)? {
+            return Ok(Some(number));
+        }
+    }
+    Ok(None)
+}
+
+/// Makes a move, and tells whether it was possible.
+fn make_move(strands: u8, step: BraidMove, letters: &mut Vec<Letter>) -> Result<bool, AllocError>
+    ensures moved { IfOk result (λ possible. moved strands step letters.old.items ≡ where_possible possible letters.new.items) }
+    ensures few { OnOk result (length letters.new.items ≤ length letters.old.items + 2) }
+{
+    let place = place_of(step) as usize;
+    if place == 0 || letters.len() < place - 1 {
+        return Ok(false);
+    }
+    let at = place - 1;
+    match step {
+        BraidMove::Cancel { .. } => Ok(cancel(letters, at)),
+        BraidMove::Insert { gap, sign, .. } => insert(letters, at, strands, gap, sign),
+        BraidMove::Far { .. } => Ok(exchange(letters, at)),
+        BraidMove::Yb { .. } => Ok(turn(letters, at)),
+    }
+}
+
+fn place_of(step: BraidMove) -> u32
+    ensures { result ≡ place_of step }
+{
+    match step {
+        BraidMove::Cancel { place }
+        | BraidMove::Insert { place, .. }
+        | BraidMove::Far { place }
+        | BraidMove::Yb { place } => place,
+    }
+}
