@@ -1,0 +1,3 @@
+mod PowerLemmas
+mod RoundLemmas
+mod StepLemmas

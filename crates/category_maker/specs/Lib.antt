@@ -1,0 +1,4 @@
+pub mod MadeCategory
+pub mod MadeProgram
+pub mod MadeSchedule
+pub mod Steps
