@@ -6,4 +6,5 @@ mod Reached
 mod JudgeLemmas
 pub mod LawLemmas
 pub mod RunLemmas
+pub mod LinkedLemmas
 mod Worked

@@ -18,13 +18,14 @@ use Rattle.site_schedule.specs.declared.fault.ScheduleFault.{ScheduleFault}
 use Rattle.site_schedule.specs.declared.fault.ScheduleFault.TheVariants as schedule
 use Rattle.site_schedule.specs.Reading.{schedule_of}
 use Rattle.outcome_report.specs.Report.{report_of}
+use Rattle.anyon_app.specs.declared.texts.Kind as text
 use Rattle.anyon_app.specs.declared.texts.Kind.TheVariants.{Category, Program as ProgramText, Schedule}
 use Rattle.anyon_app.specs.Replies.{Reply, done}
 use Rattle.anyon_app.specs.Refusals.{comb_start_line, program_line, schedule_line, stop_line, too_long}
 use Rattle.anyon_app.specs.Work.{Work, Says, reply_of, judged}
 use Rattle.anyon_app.specs.Categories.{named_of}
 use Rattle.anyon_app.specs.Verdicts.{category_verdict, symbols_in, unless}
-use Rattle.anyon_app.specs.Programs.{admitted_work, planned_work, program_of_text, program_or, report_or, scheduled_work, turns_of_program, turns_of_text, turns_or}
+use Rattle.anyon_app.specs.Programs.{admitted_work, planned_work, program_of_text, program_or, program_work, report_or, scheduled_work, turns_of_program, turns_of_text, turns_or}
 use Rattle.anyon_app.specs.Comb.{comb_work, rows_of, start_line}
 use Rattle.anyon_app.specs.Run.{run_work, run_by_work, rows_work}
 use Rattle.anyon_app.specs.Trees.{trees_work, trees_by_work, states_work}
@@ -32,13 +33,13 @@ use Rattle.anyon_app.specs.Laws.{IsCategoryText, IsProgramText, HasLawfulText, H
 use Rattle.anyon_app.proofs.LawLemmas.{category_is, has_lawful, limited_apart, no_category, refused_apart, some_same, too_long_apart, undecided, was_read}
 
 -- What was admitted on the way to a report.
-record WasAdmitted (next : NamedSymbols → Work) (files : Files) (name report : List ℕ) : Type 0 where
-  named : NamedSymbols
-  is : IsCategoryText files name named
-  lawful : HasLawfulText files name
-  went : reply_of (next named) files ≡ Some (done report)
+pub record WasAdmitted (next : NamedSymbols → Work) (files : Files) (name report : List ℕ) : Type 0 where
+  pub named : NamedSymbols
+  pub is : IsCategoryText files name named
+  pub lawful : HasLawfulText files name
+  pub went : reply_of (next named) files ≡ Some (done report)
 
-was_admitted : (next : NamedSymbols → Work) (files : Files) (name report : List ℕ) → reply_of (admitted_work name next) files ≡ Some (done report) → WasAdmitted next files name report
+pub was_admitted : (next : NamedSymbols → Work) (files : Files) (name report : List ℕ) → reply_of (admitted_work name next) files ≡ Some (done report) → WasAdmitted next files name report
 was_admitted next files name report went =
     let read = was_read (too_long Category) named_of (λ named. judged (unless (category_verdict named)) (λ _. next named)) files name report
     too_long_apart (λ text reply is e. no_category text reply report is e) went in
@@ -51,31 +52,35 @@ was_admitted next files name report went =
     }
 
 -- what a program text is read as
-program_is : (r : Result Program Fault) (plan : Program) → program_or r ≡ Ok plan → r ≡ Ok plan
-program_is (Ok other) plan e = let same : other ≡ plan = cc in ap Ok same
-program_is (Err fault) plan e = absurd cc
+program_is : (kind : text.Kind) (r : Result Program Fault) (plan : Program) → program_or kind r ≡ Ok plan → r ≡ Ok plan
+program_is kind (Ok other) plan e = let same : other ≡ plan = cc in ap Ok same
+program_is kind (Err fault) plan e = absurd cc
 
-no_program : (r : Result Program Fault) (reply : Reply) (report : List ℕ) → program_or r ≡ Err reply → reply ≡ done report → ⊥
-no_program (Ok plan) reply report is e = absurd cc
-no_program (Err fault) reply report is e =
-    let same : program_line fault.line fault.cause ≡ reply = cc in
-    refused_apart (program_line fault.line fault.cause).bytes report (same ∙ e)
+no_program : (kind : text.Kind) (r : Result Program Fault) (reply : Reply) (report : List ℕ) → program_or kind r ≡ Err reply → reply ≡ done report → ⊥
+no_program kind (Ok plan) reply report is e = absurd cc
+no_program kind (Err fault) reply report is e =
+    let same : program_line kind fault.line fault.cause ≡ reply = cc in
+    refused_apart (program_line kind fault.line fault.cause).bytes report (same ∙ e)
 
 -- What was read of the program.
-record WasPlanned (named : NamedSymbols) (next : Program → Work) (files : Files) (name report : List ℕ) : Type 0 where
-  plan : Program
-  is : IsProgramText files name named plan
-  went : reply_of (next plan) files ≡ Some (done report)
+pub record WasPlanned (named : NamedSymbols) (next : Program → Work) (files : Files) (name report : List ℕ) : Type 0 where
+  pub plan : Program
+  pub is : IsProgramText files name named plan
+  pub went : reply_of (next plan) files ≡ Some (done report)
 
-was_planned : (named : NamedSymbols) (next : Program → Work) (files : Files) (name report : List ℕ) → reply_of (planned_work name named next) files ≡ Some (done report) → WasPlanned named next files name report
-was_planned named next files name report went =
-    let read = was_read (too_long ProgramText) (program_of_text named) next files name report
-    (λ other e. refused_apart _ other e) (λ text reply is e. no_program (program_in named.names named.given.fuse text) reply report is e) went in
+pub was_program : (kind : text.Kind) (named : NamedSymbols) (next : Program → Work) (files : Files) (name report : List ℕ) → reply_of (program_work kind name named next) files ≡ Some (done report)
+    → WasPlanned named next files name report
+was_program kind named next files name report went =
+    let read = was_read (too_long kind) (program_of_text kind named) next files name report
+    (λ other e. refused_apart _ other e) (λ text reply is e. no_program kind (program_in named.names named.given.fuse text) reply report is e) went in
     record {
       plan = read.value;
-      is = record { text = read.text; there = read.there; short = read.short; reads = program_is (program_in named.names named.given.fuse read.text) read.value read.reads };
+      is = record { text = read.text; there = read.there; short = read.short; reads = program_is kind (program_in named.names named.given.fuse read.text) read.value read.reads };
       went = read.went;
     }
+
+was_planned : (named : NamedSymbols) (next : Program → Work) (files : Files) (name report : List ℕ) → reply_of (planned_work name named next) files ≡ Some (done report) → WasPlanned named next files name report
+was_planned named next files name report went = was_program ProgramText named next files name report went
 
 -- a stop is no report
 stop_apart : (stop : RunStop) (report : List ℕ) → stop_line stop ≡ done report → ⊥
@@ -171,7 +176,7 @@ comb_reports files category program report went =
     }
 
 -- one text is read as one category, and as one program over it
-same_category : (files : Files) (name : List ℕ) (x y : NamedSymbols) → IsCategoryText files name x → IsCategoryText files name y → x ≡ y
+pub same_category : (files : Files) (name : List ℕ) (x y : NamedSymbols) → IsCategoryText files name x → IsCategoryText files name y → x ≡ y
 same_category files name x y first second =
     let text : first.text ≡ second.text = let a = first.there in let b = second.there in cc in
     let both = sym first.reads ∙ (ap category_of text ∙ second.reads) in

@@ -6,6 +6,8 @@ use Rattle.cyclo_text.specs.declared.fault.NumberWord.{NumberWord}
 use Rattle.cyclo_text.specs.declared.fault.NumberWord.TheVariants.{Spelling, TooManyParts, TooBig, ZeroDenominator}
 use Rattle.category_text.specs.declared.fault.CategoryCause.{CategoryCause}
 use Rattle.category_text.specs.declared.fault.CategoryCause.TheVariants.{Line, Header, Root, Labels, Limit, Repeated, Misplaced, Word, Short, Long, UnknownLabel, UnitFuse, NotAdmissible, Number}
+use Rattle.word_moves.specs.declared.fault.MovesCause.{MovesCause}
+use Rattle.word_moves.specs.declared.fault.MovesCause.TheVariants as moves
 use Rattle.program_text.specs.declared.fault.ProgramCause.{ProgramCause}
 use Rattle.program_text.specs.declared.fault.ProgramCause.TheVariants as program
 
@@ -34,6 +36,12 @@ category_cause UnknownLabel = codes "unknown label"
 category_cause UnitFuse = codes "unit fuse"
 category_cause NotAdmissible = codes "not admissible"
 category_cause (Number cause) = number_cause cause
+
+abbrev pub moves_cause : MovesCause → List ℕ
+moves_cause (moves.Line cause) = line_cause cause
+moves_cause moves.Header = codes "header"
+moves_cause moves.Command = codes "command"
+moves_cause moves.Place = codes "place"
 
 -- a cause of a program text: one word, and the gap where a node isn't admissible
 abbrev pub program_cause : ProgramCause → List (List ℕ)

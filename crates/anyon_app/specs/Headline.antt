@@ -8,17 +8,18 @@ use Rattle.io_ports.specs.Ports.{Files, Rose, WhereTold}
 use Rattle.anyon_app.specs.declared.status.Status.{Status}
 use Rattle.anyon_app.specs.declared.status.Status.TheVariants.{Done, Refused, Usage, WriteFault, Limit}
 use Rattle.anyon_app.specs.declared.top.Command.{Command}
-use Rattle.anyon_app.specs.declared.top.Command.TheVariants.{Check, Comb, Format, Run, RunBy, Trees, TreesBy}
+use Rattle.anyon_app.specs.declared.top.Command.TheVariants.{Check, Comb, Format, Linked, Run, RunBy, Trees, TreesBy}
 use Rattle.anyon_app.specs.Replies.{Reply}
 use Rattle.anyon_app.specs.Work.{Work, Says, reply_of, Reaches, Names}
 use Rattle.anyon_app.specs.Check.{check_work}
 use Rattle.anyon_app.specs.Comb.{comb_work}
 use Rattle.anyon_app.specs.Format.{format_work}
+use Rattle.anyon_app.specs.Linked.{linked_work}
 use Rattle.anyon_app.specs.Run.{run_work, run_by_work}
 use Rattle.anyon_app.specs.Trees.{trees_work, trees_by_work}
 
 -- what words of a listed form ask for: `check CAT`, `format CAT`, `comb CAT PROG`, `run CAT PROG`, `trees CAT PROG`,
--- `run CAT PROG SCHED` or `trees CAT PROG SCHED`
+-- `run CAT PROG SCHED`, `trees CAT PROG SCHED` or `linked CAT PROG PROG MOVES`
 unfoldable pub command_in : List (List ℕ) → Option Work
 command_in (command ∷ first ∷ []) =
     if bytes_eq command (codes "check") then Some (check_work first) else (if bytes_eq command (codes "format") then Some (format_work first) else None)
@@ -29,6 +30,7 @@ command_in (command ∷ first ∷ second ∷ []) =
 command_in (command ∷ first ∷ second ∷ third ∷ []) =
     if bytes_eq command (codes "run") then Some (run_by_work first second third) else
     (if bytes_eq command (codes "trees") then Some (trees_by_work first second third) else None)
+command_in (command ∷ category ∷ first ∷ second ∷ moves ∷ []) = if bytes_eq command (codes "linked") then Some (linked_work category first second moves) else None
 command_in words = None
 
 -- what a command asks for
@@ -38,6 +40,7 @@ command_work (Format category) = format_work category.now
 command_work (Comb category program) = comb_work category.now program.now
 command_work (Run category program) = run_work category.now program.now
 command_work (Trees category program) = trees_work category.now program.now
+command_work (Linked category first second moves) = linked_work category.now first.now second.now moves.now
 command_work (RunBy category program schedule) = run_by_work category.now program.now schedule.now
 command_work (TreesBy category program schedule) = trees_by_work category.now program.now schedule.now
 

@@ -16,6 +16,7 @@ use Rattle.anyon_app.specs.Work.{Work, reply_of, text_limit}
 use Rattle.anyon_app.specs.Verdicts.{symbols_in}
 use Rattle.anyon_app.specs.Check.{accepted, check_work}
 use Rattle.anyon_app.specs.Format.{format_work}
+use Rattle.anyon_app.specs.Linked.{linked_work}
 
 -- The text of a name is there, is not too long, and is read as this category.
 pub record IsCategoryText (files : Files) (name : List ℕ) (named : NamedSymbols) : Type 0 where
@@ -94,3 +95,17 @@ abbrev pub FormattedAlike : Type 0
 FormattedAlike =
     (files later : Files) (name other report : List ℕ) → reply_of (format_work name) files ≡ Some (done report)
     → reply_of (format_work other) later ≡ Some (done report) → SayTheSame files later name other
+
+-- Two programs over one category, with the same total and the same rows.
+pub record HaveEqualRows (files : Files) (first second : List ℕ) (named : NamedSymbols) : Type 0 where
+  pub p : Program
+  pub q : Program
+  pub first_is : IsProgramText files first named p
+  pub second_is : IsProgramText files second named q
+  pub equal : outcomes_of (symbols_in named) p.start (commands_in p.sites) ≡ outcomes_of (symbols_in named) q.start (commands_in q.sites)
+
+-- the programs that `linked` finishes have equal rows
+abbrev pub LinkedHaveRows : NamedSymbols → Type 0
+LinkedHaveRows named =
+    (files : Files) (category first second moves report : List ℕ) → IsCategoryText files category named
+    → reply_of (linked_work category first second moves) files ≡ Some (done report) → HaveEqualRows files first second named

@@ -10,6 +10,7 @@ pub mod Programs
 pub mod Comb
 pub mod Run
 pub mod Trees
+pub mod Linked
 pub mod Check
 pub mod Format
 pub mod Headline

@@ -12,6 +12,7 @@ use Rattle.category_text.specs.Named.{NamedSymbols}
 use Rattle.program_text.specs.Grammar.{program_in}
 use Rattle.program_text.specs.Program.{Program}
 use Rattle.program_text.specs.Steps.{Fault}
+use Rattle.anyon_app.specs.declared.texts.Kind as text
 use Rattle.anyon_app.specs.declared.texts.Kind.TheVariants.{Category, Program as ProgramText, Schedule}
 use Rattle.anyon_app.specs.Replies.{Reply}
 use Rattle.anyon_app.specs.Refusals.{program_line, schedule_line, stop_line, too_long}
@@ -24,17 +25,20 @@ abbrev pub admitted_work : List ℕ → (NamedSymbols → Work) → Work
 admitted_work category next =
     read_work (too_long Category) named_of category (λ named. judged (unless (category_verdict named)) (λ _. next named))
 
--- the program of a text, or the reply at its first fault
-abbrev pub program_or : Result Program Fault → Result Program Reply
-program_or (Ok plan) = Ok plan
-program_or (Err fault) = Err (program_line fault.line fault.cause)
+-- the program of a text of this kind, or the reply at its first fault
+abbrev pub program_or : text.Kind → Result Program Fault → Result Program Reply
+program_or kind (Ok plan) = Ok plan
+program_or kind (Err fault) = Err (program_line kind fault.line fault.cause)
 
-abbrev pub program_of_text : NamedSymbols → List ℕ → Result Program Reply
-program_of_text named text = program_or (program_in named.names named.given.fuse text)
+abbrev pub program_of_text : text.Kind → NamedSymbols → List ℕ → Result Program Reply
+program_of_text kind named text = program_or kind (program_in named.names named.given.fuse text)
 
--- the program of a text, over a category
+-- the program of a text of this kind, over a category
+abbrev pub program_work : text.Kind → List ℕ → NamedSymbols → (Program → Work) → Work
+program_work kind program named next = read_work (too_long kind) (program_of_text kind named) program next
+
 abbrev pub planned_work : List ℕ → NamedSymbols → (Program → Work) → Work
-planned_work program named next = read_work (too_long ProgramText) (program_of_text named) program next
+planned_work program named next = program_work ProgramText program named next
 
 -- the turns of a text, or the reply at its first fault
 abbrev pub turns_or : Program → Result (List ℕ) ScheduleFault → Result (List ℕ) Reply

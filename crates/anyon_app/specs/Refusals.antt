@@ -1,5 +1,5 @@
 -- The lines of refusals and limits. Labels are written by name, other numbers in decimal digits.
-use Rattle.std.specs.Prelude.{ℕ, List, [], ◌∷◌, codes, decimal, slice_index_or}
+use Rattle.std.specs.Prelude.{ℕ, List, [], ◌∷◌, Option, Some, None, codes, decimal, slice_index_or}
 use Rattle.fusion_rules.specs.declared.rules.RulesFault.{RulesFault}
 use Rattle.fusion_rules.specs.declared.rules.RulesFault.TheVariants.{NotCommutative, NotAssociative, NoSingleDual}
 use Rattle.symbol_table.specs.Laws.{form_of}
@@ -7,7 +7,7 @@ use Rattle.symbol_table.specs.declared.law.Kind.{Kind}
 use Rattle.symbol_table.specs.declared.law.Kind.TheVariants.{Fails, Overflow}
 use Rattle.symbol_table.specs.declared.law.Event.{Event}
 use Rattle.anyon_app.specs.declared.texts.Kind as text
-use Rattle.anyon_app.specs.declared.texts.Kind.TheVariants.{Category, Program, Schedule}
+use Rattle.anyon_app.specs.declared.texts.Kind.TheVariants.{Category, Program, SecondProgram, Schedule, Moves}
 use Rattle.category_text.specs.declared.fault.CategoryCause.{CategoryCause}
 use Rattle.word_runs.specs.declared.fault.RunStop.{RunStop}
 use Rattle.outcome_report.specs.Labels.{label_names}
@@ -17,13 +17,18 @@ use Rattle.anyon_app.specs.Lines.{refusal_of, limit_of}
 use Rattle.program_text.specs.declared.fault.ProgramCause.{ProgramCause}
 use Rattle.site_schedule.specs.declared.fault.ScheduleFault.{ScheduleFault}
 use Rattle.site_schedule.specs.declared.fault.ScheduleFault.TheVariants as schedule
-use Rattle.anyon_app.specs.Causes.{category_cause, line_cause, program_cause}
+use Rattle.word_moves.specs.declared.fault.MovesCause.{MovesCause}
+use Rattle.word_moves.specs.declared.moves.Verdict.{Verdict}
+use Rattle.word_moves.specs.declared.moves.Verdict.TheVariants as verdict
+use Rattle.anyon_app.specs.Causes.{category_cause, line_cause, moves_cause, program_cause}
 
 -- the word for a text of a kind
 abbrev pub kind_word : text.Kind → List ℕ
 kind_word Category = codes "category"
 kind_word Program = codes "program"
+kind_word SecondProgram = codes "second program"
 kind_word Schedule = codes "schedule"
+kind_word Moves = codes "moves"
 
 -- a line of a text that its grammar refuses, with the words of its cause
 abbrev pub refused_line : text.Kind → ℕ → List ℕ → Reply
@@ -34,8 +39,8 @@ abbrev pub category_line : ℕ → CategoryCause → Reply
 category_line line cause = refused_line Category line (category_cause cause)
 
 -- a line of a program text, with its cause
-abbrev pub program_line : ℕ → ProgramCause → Reply
-program_line line cause = refusal_of (kind_word Program ∷ codes "line" ∷ decimal line ∷ program_cause cause)
+abbrev pub program_line : text.Kind → ℕ → ProgramCause → Reply
+program_line kind line cause = refusal_of (kind_word kind ∷ codes "line" ∷ decimal line ∷ program_cause cause)
 
 -- a turn of a schedule that can't be taken
 abbrev pub turn_line : ℕ → List ℕ → Reply
@@ -50,6 +55,21 @@ schedule_line sites (schedule.TooMany turn) = turn_line turn (codes "too many")
 schedule_line sites (schedule.Early turn) = turn_line turn (codes "early")
 schedule_line sites (schedule.Unfinished site) = refusal_of (kind_word Schedule ∷ codes "unfinished" ∷ slice_index_or sites site [] ∷ [])
 schedule_line sites schedule.Memory = refusal_of (kind_word Schedule ∷ [])
+
+-- a line of a moves text, with its cause
+abbrev pub moves_line : ℕ → MovesCause → Reply
+moves_line line cause = refused_line Moves line (moves_cause cause)
+
+-- what isn't linked, with a number
+abbrev pub not_linked : List ℕ → ℕ → Reply
+not_linked what number = refusal_of (codes "not linked" ∷ what ∷ decimal number ∷ [])
+
+-- programs that moves don't link
+abbrev pub verdict_line : Verdict → Option Reply
+verdict_line verdict.Linked = None
+verdict_line verdict.StartDiffers = Some (refusal_of (codes "not linked" ∷ codes "start" ∷ []))
+verdict_line (verdict.NoMove number) = Some (not_linked (codes "move") number)
+verdict_line (verdict.EndDiffers place) = Some (not_linked (codes "end") place)
 
 -- a start that isn't left-combed, where the program is to run on left-combed paths
 abbrev pub comb_start_line : Reply

@@ -1,10 +1,11 @@
 // The causes of refused lines, as they are written.
 ghost use Rattle.std.specs.Prelude.{◌≡◌};
-ghost use Rattle.anyon_app.specs.Causes.{category_cause, line_cause, number_cause};
+ghost use Rattle.anyon_app.specs.Causes.{category_cause, line_cause, moves_cause, number_cause};
 
 use category_text::CategoryCause;
 use cyclo_text::NumberWord;
 use line_text::LineCause;
+use word_moves::MovesCause;
 
 /// The words of a cause that any text can have.
 pub fn line_words(cause: LineCause) -> &'static str
@@ -47,5 +48,17 @@ pub fn category_words(cause: CategoryCause) -> &'static str
         CategoryCause::UnitFuse => "unit fuse",
         CategoryCause::NotAdmissible => "not admissible",
         CategoryCause::Number(cause) => number_words(cause),
+    }
+}
+
+/// The words of a cause of a moves text.
+pub fn moves_words(cause: MovesCause) -> &'static str
+    ensures { result.now ≡ moves_cause cause }
+{
+    match cause {
+        MovesCause::Line(cause) => line_words(cause),
+        MovesCause::Header => "header",
+        MovesCause::Command => "command",
+        MovesCause::Place => "place",
     }
 }

@@ -14,6 +14,7 @@ use crate::judge::Admitted;
 use crate::programs::{load_admitted, load_program, written};
 use crate::refusals::{comb_start_line, stop_line};
 use crate::stop::Stop;
+use crate::texts::Kind;
 use comb_run::comb_run;
 use io_ports::Shelf;
 use program_text::Plan;
@@ -32,7 +33,7 @@ pub fn comb<S: Shelf>(
     ensures { Worked S.files S.faults shelf.old shelf.new (comb_work category.now program.now) result }
 {
     let admitted = load_admitted(alloc, shelf, category)?;
-    let plan = load_program(alloc, shelf, &admitted, program)?;
+    let plan = load_program(alloc, shelf, Kind::Program, &admitted, program)?;
     comb_start(alloc, &plan)?;
     rows(alloc, &admitted, &plan)
 }

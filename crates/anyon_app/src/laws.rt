@@ -1,17 +1,24 @@
 // What follows from the clauses of the top call, and from the definitions of its replies.
-ghost use Rattle.std.specs.Prelude.{◌≢◌, ℕ, IsSome, List};
+ghost use Rattle.std.specs.Prelude.{◌≡◌, ◌≢◌, ℕ, IsSome, List, length};
+ghost use Rattle.category_text.specs.Named.{named_draft};
 ghost use Rattle.io_ports.specs.Memory.{files_of};
 ghost use Rattle.anyon_app.specs.Work.{reply_of};
 ghost use Rattle.anyon_app.specs.Headline.{work_of};
 ghost use Rattle.anyon_app.specs.Comb.{comb_work};
-ghost use Rattle.anyon_app.specs.Laws.{AcceptedIsLawful, FinishedIsLawful, FormatSettles, FormattedAlike, LawfulIsAccepted, ReportAlike, ReportsRows};
+ghost use Rattle.anyon_app.specs.Laws.{AcceptedIsLawful, FinishedIsLawful, FormatSettles, FormattedAlike, LawfulIsAccepted, LinkedHaveRows, ReportAlike, ReportsRows};
 ghost use Rattle.anyon_app.specs.Run.{run_by_work, run_work};
 ghost use Rattle.anyon_app.specs.Trees.{trees_by_work, trees_work};
 
 use crate::{Status, anyon};
 use category_text::canonical_texts;
+use cyclo_core::Cyclo;
+use fusion_rules::Names;
 use io_ports::{Sink, SureShelf};
+use move_laws::laws::linked;
+use program_text::program_texts;
 use std::alloc::Global;
+use symbol_table::Category;
+use word_moves::linked_programs;
 
 /// The top call over a shelf whose reads fail only where there is no such name, and on which each
 /// text that is reached stands: no read fault comes.
@@ -57,3 +64,16 @@ pub fn run_replies()
     ensures text { (schedule : List ℕ) → ReportAlike run_work (λ category program. run_by_work category program schedule) }
     ensures engines { ReportAlike run_work comb_work }
 {}
+
+/// What `linked` says of a category with these names, over the bytes of its texts: programs that it calls linked have the
+/// same total and the same rows, so `run` writes the same of both where it finishes.
+///
+/// There are as many names as labels.
+pub fn linked_replies(names: &Names, category: &Category<Cyclo>)
+    requires { length names.now ≡ category.now.rules.count }
+    ensures { LinkedHaveRows (named_draft names.now category.now) }
+{
+    program_texts();
+    linked_programs();
+    linked(category);
+}

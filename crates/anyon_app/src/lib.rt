@@ -10,7 +10,8 @@
 //! - *headline*: what the top call says of its status, of the shelf and of the sink
 //!   (`specs/Headline.antt`, [`anyon`]).
 //! - *category replies*: what the commands say of categories, over the bytes of their texts (`specs/Laws.antt`,
-//!   [`category_replies`]); *run replies*: what `run` and `comb` write ([`run_replies`]).
+//!   [`category_replies`]); *run replies*: what `run` and `comb` write ([`run_replies`]), and what
+//!   `linked` says of programs ([`linked_replies`]).
 #![tactic(auto)]
 
 mod categories;
@@ -21,6 +22,7 @@ mod format;
 mod judge;
 mod laws;
 mod lines;
+mod linked;
 mod programs;
 mod refusals;
 mod run;
@@ -30,7 +32,7 @@ mod texts;
 mod top;
 mod trees;
 
-pub use laws::{category_replies, over_sure_shelf, run_replies};
+pub use laws::{category_replies, linked_replies, over_sure_shelf, run_replies};
 pub use status::Status;
 use stop::Stop;
 pub use top::anyon;

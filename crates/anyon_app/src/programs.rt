@@ -9,7 +9,7 @@ ghost use Rattle.anyon_app.specs.Stages.{Gives, Passes};
 ghost use Rattle.outcome_rows.specs.Rows.{outcomes_in};
 ghost use Rattle.outcome_report.specs.Report.{report_of};
 ghost use Rattle.site_schedule.specs.Legal.{IsLegal, IsWellFormed};
-ghost use Rattle.anyon_app.specs.Programs.{admitted_work, planned_work, program_of_text, scheduled_work, turns_of_program, turns_of_text};
+ghost use Rattle.anyon_app.specs.Programs.{admitted_work, program_of_text, program_work, scheduled_work, turns_of_program, turns_of_text};
 
 use crate::categories::load_category;
 use crate::judge::{Admitted, judge};
@@ -34,31 +34,37 @@ pub fn load_admitted<S: Shelf>(alloc: Global, shelf: &mut S, name: &str) -> Resu
     judge(alloc, named)
 }
 
-/// The program of a text over a category.
+/// The program of a text of this kind over a category.
 pub fn load_program<S: Shelf>(
     alloc: Global,
     shelf: &mut S,
+    kind: Kind,
     admitted: &Admitted,
     name: &str,
 ) -> Result<Plan, Stop>
     requires { length admitted.now.names ≡ admitted.now.category.rules.count }
-    ensures passes { Passes S.files S.faults shelf.old shelf.new program_of (planned_work name.now (named_draft admitted.now.names admitted.now.category)) result }
+    ensures passes { Passes S.files S.faults shelf.old shelf.new program_of (program_work kind name.now (named_draft admitted.now.names admitted.now.category)) result }
     ensures well_formed { IfOk result (λ plan. IsProgram (fuses admitted.now.category.rules) admitted.now.category.rules.count (program_of plan)) }
 {
-    let text = text(alloc, shelf, Kind::Program, name)?;
-    program(alloc, admitted, &text)
+    let text = text(alloc, shelf, kind, name)?;
+    program(alloc, kind, admitted, &text)
 }
 
 // The program of these bytes.
-fn program(alloc: Global, admitted: &Admitted, text: &[u8]) -> Result<Plan, Stop>
+fn program(
+    alloc: Global,
+    kind: Kind,
+    admitted: &Admitted,
+    text: &[u8],
+) -> Result<Plan, Stop>
     requires short { length text.now < 2 ^ 32 - 1 }
     requires counts { length admitted.now.names ≡ admitted.now.category.rules.count }
-    ensures gives { Gives program_of result (program_of_text (named_draft admitted.now.names admitted.now.category) text.now) }
+    ensures gives { Gives program_of result (program_of_text kind (named_draft admitted.now.names admitted.now.category) text.now) }
     ensures well_formed { IfOk result (λ plan. IsProgram (fuses admitted.now.category.rules) admitted.now.category.rules.count (program_of plan)) }
 {
     match read_program(alloc, &admitted.names, admitted.category.rules(), text) {
         Ok(plan) => Ok(plan),
-        Err(ProgramFault::At { line, cause }) => Err(program_line(alloc, line, cause)),
+        Err(ProgramFault::At { line, cause }) => Err(program_line(alloc, kind, line, cause)),
         Err(ProgramFault::Memory) => Err(Stop::Memory),
     }
 }

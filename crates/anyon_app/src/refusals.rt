@@ -1,10 +1,11 @@
 // The lines of refusals and limits.
 ghost use Rattle.std.specs.Prelude.{◌≡◌, ◌∷◌, [], IfOk, codes, map, slice_index_or, string_bytes};
-ghost use Rattle.anyon_app.specs.Stages.{StopsWith};
-ghost use Rattle.anyon_app.specs.Refusals.{category_line, comb_start_line, event_line, event_words, kind_word, program_line, refused_line, rules_line, schedule_line, stop_line, too_long, turn_line};
+ghost use Rattle.anyon_app.specs.Stages.{Gives, StopsWith};
+ghost use Rattle.anyon_app.specs.Verdicts.{unless};
+ghost use Rattle.anyon_app.specs.Refusals.{category_line, comb_start_line, event_line, event_words, kind_word, moves_line, not_linked, program_line, refused_line, rules_line, schedule_line, stop_line, too_long, turn_line, verdict_line};
 ghost use Rattle.anyon_app.specs.Lines.{line_of, refusal_of};
 
-use crate::causes::{category_words, line_words};
+use crate::causes::{category_words, line_words, moves_words};
 use crate::stop::{Stop, limit, refusal};
 use crate::texts::Kind;
 use category_text::CategoryCause;
@@ -15,6 +16,7 @@ use program_text::{ProgramCause, Site};
 use site_schedule::ScheduleFault;
 use std::alloc::{AllocError, Global};
 use symbol_table::{Event, Kind as EventKind};
+use word_moves::{MovesCause, Verdict};
 use word_runs::RunStop;
 
 /// The stop at a text that has too many bytes.
@@ -41,29 +43,29 @@ pub fn category_line(alloc: Global, line: u32, cause: CategoryCause) -> Stop
 }
 
 /// The stop at a line of a program text.
-pub fn program_line(alloc: Global, line: u32, cause: ProgramCause) -> Stop
-    ensures { StopsWith (program_line line cause) result }
+pub fn program_line(alloc: Global, kind: Kind, line: u32, cause: ProgramCause) -> Stop
+    ensures { StopsWith (program_line kind line cause) result }
 {
     match cause {
-        ProgramCause::Line(cause) => { refused_line(alloc, Kind::Program, line, line_words(cause)) }
-        ProgramCause::Header => refused_line(alloc, Kind::Program, line, "header"),
-        ProgramCause::Start => refused_line(alloc, Kind::Program, line, "start"),
-        ProgramCause::UnknownLabel => refused_line(alloc, Kind::Program, line, "unknown label"),
-        ProgramCause::Strands => refused_line(alloc, Kind::Program, line, "strands"),
-        ProgramCause::Inadmissible(gap) => inadmissible_line(alloc, line, gap),
-        ProgramCause::Site => refused_line(alloc, Kind::Program, line, "site"),
-        ProgramCause::Command => refused_line(alloc, Kind::Program, line, "command"),
-        ProgramCause::Gap => refused_line(alloc, Kind::Program, line, "gap"),
-        ProgramCause::Name => refused_line(alloc, Kind::Program, line, "name"),
-        ProgramCause::Unnamed => refused_line(alloc, Kind::Program, line, "unnamed"),
-        ProgramCause::Unlike => refused_line(alloc, Kind::Program, line, "unlike"),
-        ProgramCause::Limit => refused_line(alloc, Kind::Program, line, "limit"),
+        ProgramCause::Line(cause) => { refused_line(alloc, kind, line, line_words(cause)) }
+        ProgramCause::Header => refused_line(alloc, kind, line, "header"),
+        ProgramCause::Start => refused_line(alloc, kind, line, "start"),
+        ProgramCause::UnknownLabel => refused_line(alloc, kind, line, "unknown label"),
+        ProgramCause::Strands => refused_line(alloc, kind, line, "strands"),
+        ProgramCause::Inadmissible(gap) => inadmissible_line(alloc, kind, line, gap),
+        ProgramCause::Site => refused_line(alloc, kind, line, "site"),
+        ProgramCause::Command => refused_line(alloc, kind, line, "command"),
+        ProgramCause::Gap => refused_line(alloc, kind, line, "gap"),
+        ProgramCause::Name => refused_line(alloc, kind, line, "name"),
+        ProgramCause::Unnamed => refused_line(alloc, kind, line, "unnamed"),
+        ProgramCause::Unlike => refused_line(alloc, kind, line, "unlike"),
+        ProgramCause::Limit => refused_line(alloc, kind, line, "limit"),
     }
 }
 
 /// The stop at a start with a node that isn't admissible.
-fn inadmissible_line(alloc: Global, line: u32, gap: u8) -> Stop
-    ensures { StopsWith (program_line line (ProgramCause.Inadmissible gap)) result }
+fn inadmissible_line(alloc: Global, kind: Kind, line: u32, gap: u8) -> Stop
+    ensures { StopsWith (program_line kind line (ProgramCause.Inadmissible gap)) result }
 {
     let mut line_digits = Buffer::new();
     let mut gap_digits = Buffer::new();
@@ -71,7 +73,7 @@ fn inadmissible_line(alloc: Global, line: u32, gap: u8) -> Stop
     let gap = gap_digits.format(gap);
     refusal(
         alloc,
-        &[Kind::Program.word(), "line", line, "inadmissible", gap],
+        &[kind.word(), "line", line, "inadmissible", gap],
     )
 }
 
@@ -116,6 +118,34 @@ pub fn schedule_line(alloc: Global, sites: &[Site], fault: ScheduleFault) -> Sto
         ScheduleFault::Early { turn } => turn_line(alloc, turn, "early"),
         ScheduleFault::Unfinished { site } => unfinished_line(alloc, site_name(sites, site)),
         ScheduleFault::Memory => Stop::Memory,
+    }
+}
+
+/// The stop at a line of a moves text.
+pub fn moves_line(alloc: Global, line: u32, cause: MovesCause) -> Stop
+    ensures { StopsWith (moves_line line cause) result }
+{
+    refused_line(alloc, Kind::Moves, line, moves_words(cause))
+}
+
+/// The stop at a verdict with a number in it.
+fn not_linked(alloc: Global, what: &'static str, number: u32) -> Stop
+    ensures { StopsWith (not_linked what.now number) result }
+{
+    let mut buffer = Buffer::new();
+    let number = buffer.format(number);
+    refusal(alloc, &["not linked", what, number])
+}
+
+/// The stop at programs that moves don't link; none where they do.
+pub fn verdict_line(alloc: Global, verdict: Verdict) -> Result<(), Stop>
+    ensures { Gives (λ _. tt) result (unless (verdict_line verdict)) }
+{
+    match verdict {
+        Verdict::Linked => Ok(()),
+        Verdict::StartDiffers => Err(refusal(alloc, &["not linked", "start"])),
+        Verdict::NoMove { number } => Err(not_linked(alloc, "move", number)),
+        Verdict::EndDiffers { place } => Err(not_linked(alloc, "end", place)),
     }
 }
 

@@ -12,6 +12,7 @@ use crate::judge::Admitted;
 use crate::programs::{load_admitted, load_program, load_schedule, text_schedule, written};
 use crate::refusals::stop_line;
 use crate::stop::Stop;
+use crate::texts::Kind;
 use io_ports::Shelf;
 use program_text::Plan;
 use site_schedule::Schedule;
@@ -29,7 +30,7 @@ pub fn run<S: Shelf>(
     ensures { Worked S.files S.faults shelf.old shelf.new (run_work category.now program.now) result }
 {
     let admitted = load_admitted(alloc, shelf, category)?;
-    let plan = load_program(alloc, shelf, &admitted, program)?;
+    let plan = load_program(alloc, shelf, Kind::Program, &admitted, program)?;
     let schedule = text_schedule(alloc, &plan)?;
     rows(alloc, &admitted, &plan, &schedule)
 }
@@ -45,7 +46,7 @@ pub fn run_by<S: Shelf>(
     ensures { Worked S.files S.faults shelf.old shelf.new (run_by_work category.now program.now schedule.now) result }
 {
     let admitted = load_admitted(alloc, shelf, category)?;
-    let plan = load_program(alloc, shelf, &admitted, program)?;
+    let plan = load_program(alloc, shelf, Kind::Program, &admitted, program)?;
     let schedule = load_schedule(alloc, shelf, &plan, schedule)?;
     rows(alloc, &admitted, &plan, &schedule)
 }

@@ -14,7 +14,9 @@ use std::alloc::Global;
 pub enum Kind {
     Category,
     Program,
+    SecondProgram,
     Schedule,
+    Moves,
 }
 
 impl Kind {
@@ -25,7 +27,9 @@ impl Kind {
         match self {
             Kind::Category => "category",
             Kind::Program => "program",
+            Kind::SecondProgram => "second program",
             Kind::Schedule => "schedule",
+            Kind::Moves => "moves",
         }
     }
 }

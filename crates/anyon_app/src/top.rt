@@ -9,6 +9,7 @@ ghost use Rattle.anyon_app.specs.Headline.{command_in, command_work, work_of, Is
 use crate::check::check;
 use crate::comb::comb;
 use crate::format::format;
+use crate::linked::linked;
 use crate::run::{run, run_by};
 use crate::trees::{trees, trees_by};
 use crate::{Status, Stop};
@@ -84,6 +85,7 @@ enum Command<'a> {
     Trees(&'a str, &'a str),
     RunBy(&'a str, &'a str, &'a str),
     TreesBy(&'a str, &'a str, &'a str),
+    Linked(&'a str, &'a str, &'a str, &'a str),
 }
 
 #[tactic(auto, unfolding(crate::specs::Headline::command_in, crate::specs::Headline::command_work))]
@@ -115,6 +117,10 @@ fn command_of(words: &[String]) -> Option<Command<'_>>
             let (category, program) = (category.as_str(), program.as_str());
             Some(Command::TreesBy(category, program, schedule.as_str()))
         }
+        [command, category, first, second, moves] if command.as_str() == "linked" => {
+            let (category, first) = (category.as_str(), first.as_str());
+            Some(Command::Linked(category, first, second.as_str(), moves.as_str()))
+        }
         _ => None,
     }
 }
@@ -131,6 +137,9 @@ fn work<S: Shelf>(alloc: Global, command: Command<'_>, shelf: &mut S) -> Result<
         Command::Trees(category, program) => trees(alloc, shelf, category, program),
         Command::RunBy(category, program, schedule) => {
             run_by(alloc, shelf, category, program, schedule)
+        }
+        Command::Linked(category, first, second, moves) => {
+            linked(alloc, shelf, category, first, second, moves)
         }
         Command::TreesBy(category, program, schedule) => {
             trees_by(alloc, shelf, category, program, schedule)

@@ -13,6 +13,7 @@ use crate::judge::Admitted;
 use crate::programs::{load_admitted, load_program, load_schedule, text_schedule};
 use crate::refusals::stop_line;
 use crate::stop::Stop;
+use crate::texts::Kind;
 use cyclo_core::Cyclo;
 use fusion_rules::Names;
 use io_ports::Shelf;
@@ -34,7 +35,7 @@ pub fn trees<S: Shelf>(
     ensures { Worked S.files S.faults shelf.old shelf.new (trees_work category.now program.now) result }
 {
     let admitted = load_admitted(alloc, shelf, category)?;
-    let plan = load_program(alloc, shelf, &admitted, program)?;
+    let plan = load_program(alloc, shelf, Kind::Program, &admitted, program)?;
     let schedule = text_schedule(alloc, &plan)?;
     states(alloc, &admitted, &plan, &schedule)
 }
@@ -50,7 +51,7 @@ pub fn trees_by<S: Shelf>(
     ensures { Worked S.files S.faults shelf.old shelf.new (trees_by_work category.now program.now schedule.now) result }
 {
     let admitted = load_admitted(alloc, shelf, category)?;
-    let plan = load_program(alloc, shelf, &admitted, program)?;
+    let plan = load_program(alloc, shelf, Kind::Program, &admitted, program)?;
     let schedule = load_schedule(alloc, shelf, &plan, schedule)?;
     states(alloc, &admitted, &plan, &schedule)
 }

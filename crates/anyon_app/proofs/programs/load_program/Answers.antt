@@ -1,5 +1,4 @@
 use Rattle.std.proofs.lemmas.Result.{err_from_is_err_and}
-use Rattle.anyon_app.specs.declared.texts.Kind.TheVariants.{Program}
 use Rattle.anyon_app.specs.Refusals.{too_long}
 use Rattle.category_text.specs.Named.{named_draft}
 use Rattle.anyon_app.specs.Programs.{program_of_text}
@@ -12,4 +11,4 @@ returns-in_err-text-clause-passes g c =
     rw (p.1, p.2) record { stopped = λ next. c.in_err-text.ensures.passes.stopped _; passed = tt }
 
 pub returns-clause-passes : goal.returns-clause-passes
-returns-clause-passes g c = read_passes _ _ _ _ (too_long Program) c.args.name.now _ (program_of_text (named_draft c.args.admitted.now.names c.args.admitted.now.category)) _ _ c.in_ok-text.ensures.passes (rw c.deref.ensures.value at c.program.ensures.gives)
+returns-clause-passes g c = read_passes _ _ _ _ (too_long c.args.kind) c.args.name.now _ (program_of_text c.args.kind (named_draft c.args.admitted.now.names c.args.admitted.now.category)) _ _ c.in_ok-text.ensures.passes (rw c.deref.ensures.value at c.program.ensures.gives)

@@ -1,0 +1,14 @@
+use Rattle.std.proofs.lemmas.Result.{err_from_is_err_and}
+use Rattle.anyon_app.specs.declared.texts.Kind.TheVariants.{Moves}
+use Rattle.anyon_app.specs.Refusals.{too_long}
+use Rattle.anyon_app.specs.Linked.{moves_of_text}
+use Rattle.anyon_app.proofs.StageLemmas.{read_passes}
+use Rattle.anyon_app.proofs.linked.load_moves.Goals as goal
+
+pub returns-in_err-text-clause-passes : goal.returns-in_err-text-clause-passes
+returns-in_err-text-clause-passes g c =
+    let p = err_from_is_err_and c.from_residual.result c.from_residual.ensures.1 in
+    rw (p.1, p.2) record { stopped = λ next. c.in_err-text.ensures.passes.stopped _; passed = tt }
+
+pub returns-clause-passes : goal.returns-clause-passes
+returns-clause-passes g c = read_passes _ _ _ _ (too_long Moves) c.args.name.now _ moves_of_text _ _ c.in_ok-text.ensures.passes (rw c.deref.ensures.value at c.moves.ensures.gives)
