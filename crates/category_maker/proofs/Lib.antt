@@ -1,3 +1,6 @@
+mod NamesLemmas
 mod PowerLemmas
+mod ProgramLemmas
 mod RoundLemmas
+mod ScheduleLemmas
 mod StepLemmas
