@@ -1,13 +1,18 @@
 -- What the texts of a number say.
 use Rattle.std.specs.Prelude.{◌≡◌, ℕ, ◌≤◌, Ok}
+use Rattle.category_text.specs.Again.{ReadAgain}
 use Rattle.program_text.specs.Grammar.{program_in}
 use Rattle.program_text.specs.WellFormed.{IsProgram}
 use Rattle.program_text.specs.Written.{written}
 use Rattle.site_schedule.specs.Legal.{IsLegal}
 use Rattle.site_schedule.specs.Reading.{schedule_of}
-use Rattle.category_maker.specs.MadeCategory.{group_fuses, label_names}
+use Rattle.category_maker.specs.MadeCategory.{group_fuses, label_names, made_category}
 use Rattle.category_maker.specs.MadeProgram.{made_program}
 use Rattle.category_maker.specs.MadeSchedule.{made_schedule, made_turns}
+
+-- the category text is read, to the root, the names, the rules and the symbols of the category
+abbrev pub CategoriesRead : Type 0
+CategoriesRead = (n : ℕ) → 2 ≤ n → n ≤ 12 → ReadAgain (made_category n)
 
 -- the program is well formed over the category
 abbrev pub ProgramsWellFormed : Type 0

@@ -19,7 +19,7 @@ mod rules;
 mod schedule;
 mod start;
 
-pub use laws::{made_programs, made_schedules};
+pub use laws::{made_categories, made_programs, made_schedules};
 pub use making::{Made, MakeFault, make};
 
 #[cfg(test)]
