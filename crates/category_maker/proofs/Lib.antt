@@ -6,3 +6,4 @@ mod RoundLemmas
 mod SaidLemmas
 mod ScheduleLemmas
 mod StepLemmas
+mod Worked

@@ -1,10 +1,10 @@
 -- The category of a number can be said, and is read.
-use Rattle.std.proofs.Common.{◌≡◌, ℕ, ◌*◌, ◌%◌, ◌^◌, ◌-◌, ◌<◌, ◌≤◌, Bool, true, false, length, refl, ap, sym, subst, ◌∙◌, arith, inl, inr, if◌then◌else◌, Some, None}
+use Rattle.std.proofs.Common.{◌≡◌, ℕ, ◌*◌, ◌%◌, ◌^◌, ◌-◌, ◌<◌, ◌≤◌, Bool, true, false, refl, ap, sym, subst, ◌∙◌, arith, inl, inr, if◌then◌else◌, Some, None}
 use Rattle.std.specs.Prelude.{IsTrue, unsigned_abs, unwrap_or}
 use Rattle.std.proofs.lemmas.Bool.{cases_lt}
 use Rattle.poly_core.specs.Combination.{pointwise}
 use Rattle.poly_core.specs.Roots.{IsGood-root_at}
-use Rattle.poly_core.specs.Rho.{degree, is_accepted, rho}
+use Rattle.poly_core.specs.Rho.{is_accepted, rho}
 use Rattle.poly_core.specs.Table.{at, past_end}
 use Rattle.poly_core.proofs.PowerLemmas.{rho_past}
 use Rattle.poly_core.proofs.RhoLemmas.{degree_small}
@@ -12,7 +12,6 @@ use Rattle.cyclo_core.specs.CycloLaws.{at-tabulate}
 use Rattle.cyclo_core.specs.Ratio.{Ratio, is_held, reduced, ring_at, tabulate}
 use Rattle.cyclo_core.specs.RingAt.{member_of_reduced, ring_at_laws}
 use Rattle.cyclo_core.proofs.NumberLemmas.{holds, number_over_one, reduced_over_one}
-use Rattle.category_text.specs.Named.{NamedSymbols, named_draft}
 use Rattle.category_text.specs.Again.{IsNumberOf, IsSaid, ReadAgain}
 use Rattle.category_text.specs.Writing.{AllNumbers}
 use Rattle.category_text.proofs.DraftLemmas.{draft_said}
