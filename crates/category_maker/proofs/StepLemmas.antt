@@ -3,7 +3,7 @@ use Rattle.std.proofs.Common.{◌≡◌, ◌⊎◌, ℕ, ◌+◌, ◌*◌, ◌%�
 use mathlib.Core.Path.{fun_ext}
 use Rattle.std.specs.Prelude.{nat_lt, not}
 use Rattle.cyclo_core.specs.Ratio.{Ratio}
-use Rattle.symbol_table.specs.Draft.{DraftValue, SetsVertex, given, with_r}
+use Rattle.symbol_table.specs.Draft.{DraftValue, SetsVertex, given}
 use Rattle.std.specs.Map.{lookup}
 use Rattle.std.specs.BTreeMap.{is_at}
 use Rattle.symbol_table.specs.declared.index.FIndex.{FIndex}
@@ -107,9 +107,9 @@ r_more n a b x y z ha hb =
     there s t (inl nx) = grind (arith, nat_tests)
     there s t (inr ny) = grind (arith, nat_tests)
 
-pub power_set : (n a b : ℕ) (old new : DraftValue ℕ Ratio) (value : Ratio) → a < n → b < n → IsSetUpTo n a b old → value ≡ root_power n ((a * b) % n)
-    → new ≡ with_r old (v_index a b ((a + b) % n)) value → SetsVertex (v_index a b ((a + b) % n)) value (given old).set_r (given new).set_r → IsSetUpTo n a (b + 1) new
-power_set n a b old new value ha hb before is e sets = record {
+pub power_set : (n a b : ℕ) (old new : DraftValue ℕ Ratio) (value : Ratio) (entries : List (VIndex × Ratio)) → a < n → b < n → IsSetUpTo n a b old → value ≡ root_power n ((a * b) % n)
+    → new ≡ record old { set_r = entries } → SetsVertex (v_index a b ((a + b) % n)) value (given old).set_r (given new).set_r → IsSetUpTo n a (b + 1) new
+power_set n a b old new value entries ha hb before is e sets = record {
   version = ap (λ d. d.version) e ∙ before.version;
   ring = ap (λ d. d.ring) e ∙ before.ring;
   count = ap (λ d. d.rules.count) e ∙ before.count;

@@ -1,3 +1,4 @@
+pub mod Laws
 pub mod MadeCategory
 pub mod MadeProgram
 pub mod MadeSchedule

@@ -10,6 +10,7 @@
 
 mod category;
 mod commands;
+mod laws;
 mod making;
 mod names;
 mod powers;
@@ -18,6 +19,7 @@ mod rules;
 mod schedule;
 mod start;
 
+pub use laws::{made_categories, made_programs, made_schedules};
 pub use making::{Made, MakeFault, make};
 
 #[cfg(test)]

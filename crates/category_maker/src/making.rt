@@ -1,4 +1,5 @@
 ghost use Rattle.std.specs.Prelude.{◌≡◌, ◌≤◌, ◌<◌, ◌⊎◌, ◌↔◌, IfOk, Err};
+ghost use Rattle.category_text.specs.Again.{ReadAgain};
 ghost use Rattle.category_text.specs.Canonical.{canonical};
 ghost use Rattle.program_text.specs.Written.{written};
 ghost use Rattle.category_maker.specs.MadeCategory.{label_names, made_category};
@@ -44,11 +45,12 @@ pub struct Made {
 /// The category has the root n and the labels `g0` to `g(n-1)`, which fuse to their sum modulo n; R of two labels is the power
 /// of the root of unity by their product, and every other symbol is 1. The program has sixteen strands, of which strand k
 /// has the label k mod n, in a left comb, and two sites `A` and `B` of eight strands with 1,024 commands each. The schedule
-/// has 1,024 lines `A B`. All three are canonical.
+/// has 1,024 lines `A B`. All three are canonical, and the category text is read, to this category.
 ///
 /// `Number` comes exactly where n isn't from 2 to 12, `Memory` only for want of memory.
 pub fn make(alloc: Global, n: u32) -> Result<Made, MakeFault>
     ensures category { IfOk result (λ made. made.category.items ≡ canonical (made_category n)) }
+    ensures read { IfOk result (λ _. ReadAgain (made_category n)) }
     ensures program { IfOk result (λ made. made.program.items ≡ written (label_names n) (made_program n)) }
     ensures schedule { IfOk result (λ made. made.schedule.items ≡ made_schedule) }
     ensures number { (result ≡ Err Number) ↔ ((n < 2) ⊎ (12 < n)) }
@@ -64,6 +66,7 @@ fn texts(alloc: Global, n: u8) -> Result<Made, AllocError>
     requires some { 0 < n }
     requires few { n ≤ 12 }
     ensures category { IfOk result (λ made. made.category.items ≡ canonical (made_category n)) }
+    ensures read { IfOk result (λ _. ReadAgain (made_category n)) }
     ensures program { IfOk result (λ made. made.program.items ≡ written (label_names n) (made_program n)) }
     ensures schedule { IfOk result (λ made. made.schedule.items ≡ made_schedule) }
 {

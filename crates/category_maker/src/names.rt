@@ -1,7 +1,6 @@
 //! The names of the labels.
 
-ghost use Rattle.std.specs.Prelude.{◌≡◌, ◌≤◌, ◌<◌, ◌++◌, ◌∷◌, [], IfOk, OnOk, map};
-ghost use Rattle.category_text.specs.Canonical.{counting};
+ghost use Rattle.std.specs.Prelude.{◌≡◌, ◌≤◌, ◌<◌, ◌++◌, ◌∷◌, [], IfOk, OnOk};
 ghost use Rattle.category_maker.specs.MadeCategory.{label_name, label_names};
 
 use fusion_rules::{NameFault, Names};

@@ -1,7 +1,6 @@
 //! Powers of a root of unity.
 
-ghost use Rattle.std.specs.Prelude.{◌≡◌, ◌≤◌, ◌<◌, ℕ, IsTrue, unsigned_abs};
-ghost use Rattle.poly_core.specs.Rho.{rho};
+ghost use Rattle.std.specs.Prelude.{◌≡◌, ◌≤◌, ◌<◌, IsTrue};
 ghost use Rattle.poly_core.specs.Table.{at};
 ghost use Rattle.cyclo_core.specs.Ratio.{ring_at};
 ghost use Rattle.category_maker.specs.MadeCategory.{root_power};
