@@ -13,7 +13,10 @@ use program_text::{Letter, Plan};
 use std::alloc::{AllocError, Global};
 
 /// Whether moves lead from one program to another: over the same labelled start tree, from the letters of the one to those
-/// of the other, where raises are no letters. Cancelling, inserting, and no other move, takes time for the letters behind its place.
+/// of the other. Raises are no letters.
+///
+/// `StartDiffers` comes before `NoMove`, and `NoMove` before `EndDiffers`. A cancelled or inserted pair shifts the letters
+/// behind it; the other moves take the time of the letters that they change.
 pub fn linked(alloc: Global, from: &Plan, to: &Plan, moves: &Moves) -> Result<Verdict, AllocError>
     requires from { IsWellFormed (program_of from.now) }
     requires to { IsWellFormed (program_of to.now) }
