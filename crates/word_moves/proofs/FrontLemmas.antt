@@ -1,5 +1,5 @@
 -- Moves at a place, in place.
-use Rattle.std.proofs.Common.{◌≡◌, ℕ, zero, suc, ◌+◌, ◌<◌, ◌≤◌, Bool, true, false, List, [], ◌∷◌, ◌++◌, length, get_or, take, drop, drop-cons, Option, Some, None, refl, ap, ◌∙◌, arith, length-drop}
+use Rattle.std.proofs.Common.{◌≡◌, ℕ, zero, suc, ◌+◌, ◌<◌, ◌≤◌, Bool, true, false, List, [], ◌∷◌, ◌++◌, length, get_or, take, drop, drop-cons, Option, Some, None, refl, ap, sym, ◌∙◌, arith, length-drop}
 use Rattle.std.specs.Prelude.{◌&&◌, option_map, if◌then◌else◌}
 use Rattle.std.specs.List.{remove}
 use Rattle.std.proofs.Math.ListN.{set}
@@ -16,6 +16,19 @@ three_cells : (ls : List Letter) (at : ℕ) (d : Letter) → at + 3 ≤ length l
 three_cells ls at d low =
     two_cells ls at d (omega arith) ∙ ap (λ l. get_or ls at d ∷ get_or ls (at + 1) d ∷ l) (drop-cons ls (suc (suc at)) d (omega arith))
     ∙ ap (λ (n : ℕ). get_or ls at d ∷ get_or ls (at + 1) d ∷ get_or ls n d ∷ drop (suc (suc (suc at))) ls) (let e : suc (suc at) ≡ at + 2 = omega arith in e)
+
+two_here : (ls : List Letter) (at : ℕ) (a b : Letter) → at + 2 ≤ length ls → a ≡ get_or ls at a → b ≡ get_or ls (at + 1) b → drop at ls ≡ a ∷ b ∷ drop (suc (suc at)) ls
+two_here ls at a b low first second =
+    drop-cons ls at a (omega arith) ∙ ap (λ (x : Letter). x ∷ drop (suc at) ls) (sym first)
+    ∙ ap (λ l. a ∷ l) (drop-cons ls (suc at) b (omega arith) ∙ ap (λ (n : ℕ). get_or ls n b ∷ drop (suc (suc at)) ls) (let e : suc at ≡ at + 1 = omega arith in e) ∙ ap (λ (x : Letter). x ∷ drop (suc (suc at)) ls) (sym second))
+
+three_here : (ls : List Letter) (at : ℕ) (a b d : Letter) → at + 3 ≤ length ls → a ≡ get_or ls at a → b ≡ get_or ls (at + 1) b → d ≡ get_or ls (at + 2) d
+    → drop at ls ≡ a ∷ b ∷ d ∷ drop (suc (suc (suc at))) ls
+three_here ls at a b d low first second third =
+    two_here ls at a b (omega arith) first second
+    ∙ ap (λ l. a ∷ b ∷ l)
+    (drop-cons ls (suc (suc at)) d (omega arith) ∙ ap (λ (n : ℕ). get_or ls n d ∷ drop (suc (suc (suc at))) ls) (let e : suc (suc at) ≡ at + 2 = omega arith in e)
+    ∙ ap (λ (x : Letter). x ∷ drop (suc (suc (suc at))) ls) (sym third))
 
 -- a change is of what stands at the place
 changed : (change : List Letter → Option (List Letter)) (ls front : List Letter) (at : ℕ) (new : Option (List Letter)) → drop at ls ≡ front → change front ≡ new → behind at change ls ≡ option_map (λ rest. take at ls ++ rest) new
@@ -84,21 +97,18 @@ cancel_is ls at d low e =
     changed cancelled ls _ at (Some (drop (suc (suc at)) ls)) (two_cells ls at d low) (ap (λ (b : Bool). if b then Some (drop (suc (suc at)) ls) else None) e)
     ∙ ap Some (removed ls at)
 
-pub exchange_is : (ls : List Letter) (at : ℕ) (d : Letter) → at + 2 ≤ length ls → are_far (get_or ls at d) (get_or ls (at + 1) d) ≡ true
-    → behind at exchanged ls ≡ Some (set (set ls at (get_or ls (at + 1) d)) (at + 1) (get_or ls at d))
-exchange_is ls at d low e =
-    let new = Some (get_or ls (at + 1) d ∷ get_or ls at d ∷ drop (suc (suc at)) ls) in
-    changed exchanged ls _ at new (two_cells ls at d low) (ap (λ (b : Bool). if b then new else None) e)
-    ∙ ap Some (two_set ls at (get_or ls (at + 1) d) (get_or ls at d) (omega arith))
-    ∙ ap (λ (n : ℕ). Some (set (set ls at (get_or ls (at + 1) d)) n (get_or ls at d))) (let e : suc at ≡ at + 1 = omega arith in e)
+pub exchange_is : (ls : List Letter) (at : ℕ) (a b : Letter) → at + 2 ≤ length ls → a ≡ get_or ls at a → b ≡ get_or ls (at + 1) b → are_far a b ≡ true
+    → behind at exchanged ls ≡ Some (set (set ls at b) (at + 1) a)
+exchange_is ls at a b low first second e =
+    let new = Some (b ∷ a ∷ drop (suc (suc at)) ls) in
+    changed exchanged ls _ at new (two_here ls at a b low first second) (ap (λ (t : Bool). if t then new else None) e) ∙ ap Some (two_set ls at b a (omega arith))
+    ∙ ap (λ (n : ℕ). Some (set (set ls at b) n a)) (let e : suc at ≡ at + 1 = omega arith in e)
 
-pub turn_is : (ls : List Letter) (at : ℕ) (d : Letter) → at + 3 ≤ length ls → (are_neighbours (get_or ls at d) (get_or ls (at + 1) d) && same_letter (get_or ls (at + 2) d) (get_or ls at d)) ≡ true
-    → behind at turned ls ≡ Some (set (set (set ls at (get_or ls (at + 1) d)) (at + 1) (get_or ls at d)) (at + 2) (get_or ls (at + 1) d))
-turn_is ls at d low e =
-    let a = get_or ls at d in
-    let b = get_or ls (at + 1) d in
+pub turn_is : (ls : List Letter) (at : ℕ) (a b d : Letter) → at + 3 ≤ length ls → a ≡ get_or ls at a → b ≡ get_or ls (at + 1) b → d ≡ get_or ls (at + 2) d → are_neighbours a b ≡ true
+    → same_letter d a ≡ true → behind at turned ls ≡ Some (set (set (set ls at b) (at + 1) a) (at + 2) b)
+turn_is ls at a b d low first second third near same =
     let new = Some (b ∷ a ∷ b ∷ drop (suc (suc (suc at))) ls) in
-    changed turned ls _ at new (three_cells ls at d low) (ap (λ (t : Bool). if t then new else None) e)
-    ∙ ap Some (three_set ls at b a b (omega arith))
+    changed turned ls _ at new (three_here ls at a b d low first second third)
+    (ap (λ (t : Bool). if t && same_letter d a then new else None) near ∙ ap (λ (t : Bool). if t then new else None) same) ∙ ap Some (three_set ls at b a b (omega arith))
     ∙ ap (λ (n : ℕ). Some (set (set (set ls at b) n a) (suc (suc at)) b)) (let e : suc at ≡ at + 1 = omega arith in e)
     ∙ ap (λ (n : ℕ). Some (set (set (set ls at b) (at + 1) a) n b)) (let e : suc (suc at) ≡ at + 2 = omega arith in e)

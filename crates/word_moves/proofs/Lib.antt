@@ -5,3 +5,4 @@ pub mod EndLemmas
 pub mod ReadingLemmas
 pub mod WorkedTexts
 pub mod LinkLemmas
+pub mod CursorLemmas

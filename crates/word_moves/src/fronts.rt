@@ -52,10 +52,10 @@ pub(crate) fn insert(
 
 /// Lets two far braids change places.
 #[tactic(auto, using(crate::proofs::FrontLemmas::exchange_short, crate::proofs::FrontLemmas::exchange_not, crate::proofs::FrontLemmas::exchange_is))]
-pub(crate) fn exchange(letters: &mut [Letter], at: usize) -> bool
+pub(crate) fn exchange(letters: &mut Vec<Letter>, at: usize) -> bool
     requires { at < 2 ^ 32 }
-    ensures moved { behind at exchanged letters.old ≡ where_possible result letters.new }
-    ensures few { length letters.new ≡ length letters.old }
+    ensures moved { behind at exchanged letters.old.items ≡ where_possible result letters.new.items }
+    ensures few { length letters.new.items ≡ length letters.old.items }
 {
     if letters.len() < at + 2 {
         return false;
@@ -72,10 +72,10 @@ pub(crate) fn exchange(letters: &mut [Letter], at: usize) -> bool
 
 /// Lets three braids at neighbouring gaps begin at the other gap.
 #[tactic(auto, using(crate::proofs::FrontLemmas::turn_short, crate::proofs::FrontLemmas::turn_not, crate::proofs::FrontLemmas::turn_is))]
-pub(crate) fn turn(letters: &mut [Letter], at: usize) -> bool
+pub(crate) fn turn(letters: &mut Vec<Letter>, at: usize) -> bool
     requires { at < 2 ^ 32 }
-    ensures moved { behind at turned letters.old ≡ where_possible result letters.new }
-    ensures few { length letters.new ≡ length letters.old }
+    ensures moved { behind at turned letters.old.items ≡ where_possible result letters.new.items }
+    ensures few { length letters.new.items ≡ length letters.old.items }
 {
     if letters.len() < at + 3 {
         return false;

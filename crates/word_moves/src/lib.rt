@@ -9,6 +9,8 @@
 //! - *moves of a text*: a move a line, or the first fault (`specs/Reading.antt`, `moves_of`).
 #![tactic(auto)]
 
+mod at_cursor;
+mod cursor;
 mod fault;
 mod fronts;
 mod header;

@@ -13,7 +13,11 @@ use program_text::{Letter, Plan};
 use std::alloc::{AllocError, Global};
 
 /// Whether moves lead from one program to another: over the same labelled start tree, from the letters of the one to those
-/// of the other, where raises are no letters. Cancelling, inserting, and no other move, takes time for the letters behind its place.
+/// of the other. Raises are no letters.
+///
+/// `StartDiffers` comes before `NoMove`, and `NoMove` before `EndDiffers`. A cursor stands among the letters: cancelling and
+/// inserting take it to their place, and the other moves only forward, up to behind their letters. So the time of a move is
+/// that of its way from the last one, and of the other moves that of the letters that they change.
 pub fn linked(alloc: Global, from: &Plan, to: &Plan, moves: &Moves) -> Result<Verdict, AllocError>
     requires from { IsWellFormed (program_of from.now) }
     requires to { IsWellFormed (program_of to.now) }
@@ -26,7 +30,7 @@ pub fn linked(alloc: Global, from: &Plan, to: &Plan, moves: &Moves) -> Result<Ve
     let mut letters = moving_letters(alloc, from)?;
     let end = moving_letters(alloc, to)?;
     let strands = count_strands(&from.start);
-    if let Some(number) = make_moves(strands, &moves.list, &mut letters)? {
+    if let Some(number) = make_moves(alloc, strands, &moves.list, &mut letters)? {
         return Ok(Verdict::NoMove { number });
     }
     match first_different(&letters, &end) {
