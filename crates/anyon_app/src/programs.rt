@@ -51,12 +51,7 @@ pub fn load_program<S: Shelf>(
 }
 
 // The program of these bytes.
-fn program(
-    alloc: Global,
-    kind: Kind,
-    admitted: &Admitted,
-    text: &[u8],
-) -> Result<Plan, Stop>
+fn program(alloc: Global, kind: Kind, admitted: &Admitted, text: &[u8]) -> Result<Plan, Stop>
     requires short { length text.now < 2 ^ 32 - 1 }
     requires counts { length admitted.now.names ≡ admitted.now.category.rules.count }
     ensures gives { Gives program_of result (program_of_text kind (named_draft admitted.now.names admitted.now.category) text.now) }

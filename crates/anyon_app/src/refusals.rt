@@ -71,10 +71,7 @@ fn inadmissible_line(alloc: Global, kind: Kind, line: u32, gap: u8) -> Stop
     let mut gap_digits = Buffer::new();
     let line = line_digits.format(line);
     let gap = gap_digits.format(gap);
-    refusal(
-        alloc,
-        &[kind.word(), "line", line, "inadmissible", gap],
-    )
+    refusal(alloc, &[kind.word(), "line", line, "inadmissible", gap])
 }
 
 /// The stop at a turn of a schedule that can't be taken.
