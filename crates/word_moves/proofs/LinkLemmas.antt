@@ -16,11 +16,11 @@ use Rattle.word_moves.specs.Verdicts.{LinkedIsMoved, first_different, moved_by, 
 never : false ≡ true → ⊥
 never e = cc
 
-both : (a b : Bool) → (a && b) ≡ true → (a ≡ true) × (b ≡ true)
+pub both : (a b : Bool) → (a && b) ≡ true → (a ≡ true) × (b ≡ true)
 both true b e = (refl, e)
 both false b e = absurd (never e)
 
-number_is : (a b : ℕ) → (a == b) ≡ true → a ≡ b
+pub number_is : (a b : ℕ) → (a == b) ≡ true → a ≡ b
 number_is a b e = by (eqb_tells a b)
   where
     by : (((a == b) ≡ true) × (a ≡ b)) ⊎ (((a == b) ≡ false) × (a ≢ b)) → a ≡ b
@@ -37,7 +37,7 @@ number_same a = by (eqb_tells a a)
 both_true : (a b : Bool) → a ≡ true → b ≡ true → (a && b) ≡ true
 both_true a b ea eb = ap (λ (x : Bool). x && b) ea ∙ eb
 
-sign_is : (s t : Sign) → same_sign s t ≡ true → s ≡ t
+pub sign_is : (s t : Sign) → same_sign s t ≡ true → s ≡ t
 sign_is Plus Plus e = refl
 sign_is Plus Minus e = absurd (never e)
 sign_is Minus Plus e = absurd (never e)
@@ -48,7 +48,7 @@ sign_same Plus = refl
 sign_same Minus = refl
 
 -- letters that aren't told apart are the same
-letter_is : (a b : Letter) → same_letter a b ≡ true → a ≡ b
+pub letter_is : (a b : Letter) → same_letter a b ≡ true → a ≡ b
 letter_is (Crossing i s) (Crossing j t) e =
     let h = both (i == j) (same_sign s t) e in
     ap (λ k. Crossing k s) (number_is i j h.0) ∙ ap (λ u. Crossing j u) (sign_is s t h.1)
