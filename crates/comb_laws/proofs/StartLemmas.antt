@@ -6,7 +6,7 @@ use Rattle.std.proofs.lemmas.List.Elements.{All-from_recursion}
 use Rattle.std.proofs.lemmas.Bool.Decides.{nat_tests}
 use Rattle.symbol_table.specs.Symbols.{Symbols}
 use Rattle.tree_shapes.specs.Labelled.{Labelled, Strand, Joined, label, leaves, size, is_strand, is_left_comb, is_admissible}
-use Rattle.program_text.specs.Form.{labels_below, is_comb_start}
+use Rattle.program_text.specs.Form.{labels_below}
 use Rattle.comb_laws.specs.Paths.{goes_on, is_path}
 use Rattle.comb_laws.specs.Amplitudes.{own_path}
 use Rattle.comb_laws.specs.Laws.{is_left_start}
@@ -28,22 +28,8 @@ left_start fuse count t h =
     let e = and_true (labels_below count t) (is_admissible fuse t) d.1 in
     record { comb = d.0; below = e.0; admissible = e.1 }
 
-le_of : (a b : ℕ) → nat_le a b ≡ true → a ≤ b
-le_of a b h = grind (arith, nat_tests)
-
 lt_of : (a b : ℕ) → nat_lt a b ≡ true → a < b
 lt_of a b h = grind (arith, nat_tests)
-
--- the start of a comb program: at most 16 strands
-pub record CombStart (fuse : ℕ → ℕ → ℕ → Bool) (count : ℕ) (t : Labelled) : Type 0 where
-  pub few : size t ≤ 16
-  pub left : is_left_start fuse count t ≡ true
-
-pub comb_start : (fuse : ℕ → ℕ → ℕ → Bool) (count : ℕ) (t : Labelled) → is_comb_start fuse count t ≡ true → CombStart fuse count t
-comb_start fuse count t h =
-    let a = and_true (nat_le 2 (size t)) (nat_le (size t) 16 && is_left_start fuse count t) h in
-    let b = and_true (nat_le (size t) 16) (is_left_start fuse count t) a.1 in
-    record { few = le_of (size t) 16 b.0; left = b.1 }
 
 all_append : (n : ℕ) (xs ys : List ℕ) → AllByRecursion (λ s. s < n) xs → AllByRecursion (λ s. s < n) ys → AllByRecursion (λ s. s < n) (xs ++ ys)
 all_append n [] ys a b = b

@@ -1,16 +1,12 @@
--- The text of a program with the one site `main`, part by part.
-use Rattle.std.proofs.Common.{◌≡◌, ℕ, suc, ◌+◌, ◌<◌, List, [], ◌∷◌, ◌++◌, length, map, take, get_or, refl, sym, ap, ◌∙◌, arith, append_assoc, codes}
-use Rattle.std.proofs.Math.Seq.{take-suc, take-length}
-use Rattle.std.proofs.lemmas.List.{append-nil, map-append}
+-- The start line, part by part.
+use Rattle.std.proofs.Common.{◌≡◌, ℕ, ◌<◌, List, [], ◌∷◌, ◌++◌, length, refl, sym, ap, ◌∙◌, arith, append_assoc, codes}
+use Rattle.std.proofs.lemmas.List.{append-nil}
 use Rattle.line_text.specs.Spelling.{spaced, spelled}
 use Rattle.line_text.specs.Writing.{spaced_on}
 use Rattle.line_text.proofs.WritingLemmas.{spaced-cons, spaced_on-append, spelled-append}
 use Rattle.fusion_rules.specs.Names.{name_of}
 use Rattle.tree_shapes.specs.Labelled.{Labelled, Strand, Joined}
-use Rattle.program_text.specs.declared.plan.Command.{Command}
-use Rattle.program_text.specs.Canonical.{opened, closed, tree_words, command_words, canonical_program}
-use Rattle.program_text.specs.Reading.{main_program}
-use Rattle.program_text.proofs.FormLemmas.{main_lines, main_spelled}
+use Rattle.program_text.specs.Canonical.{opened, closed, tree_words}
 
 -- The words of a tree, spelled.
 
@@ -70,19 +66,3 @@ start_more names t old one two new a b c =
 
 pub lines_more : (ls ms : List (List (List ℕ))) (old mid new : List ℕ) → mid ≡ old ++ spelled ls → new ≡ mid ++ spelled ms → new ≡ old ++ spelled (ls ++ ms)
 lines_more ls ms old mid new a b = b ∙ ap (λ t. t ++ spelled ms) a ∙ append_assoc old (spelled ls) (spelled ms) ∙ ap (λ t. old ++ t) (sym (spelled-append ls ms))
-
--- one command more
-pub command_more : (names : List (List ℕ)) (t : Labelled) (commands : List Command) (d : Command) (i : ℕ) (old mid new : List ℕ) → i < length commands → mid ≡ old ++ spelled (main_lines names t (take i commands))
-    → new ≡ mid ++ spelled (command_words (get_or commands i d) ∷ []) → new ≡ old ++ spelled (main_lines names t (take (i + 1) commands))
-command_more names t commands d i old mid new within a b =
-    let line : List (List ℕ) = command_words (get_or commands i d) in
-    let one_more : suc i ≡ i + 1 = omega arith in
-    let taken : map command_words (take (i + 1) commands) ≡ map command_words (take i commands) ++ line ∷ [] =
-    ap (λ n. map command_words (take n commands)) (sym one_more) ∙ ap (map command_words) (take-suc commands i d within) ∙ map-append command_words (take i commands) (get_or commands i d ∷ []) in
-    lines_more (main_lines names t (take i commands)) (line ∷ []) old mid new a b
-    ∙ ap (λ ls. old ++ spelled ((codes "program" ∷ codes "1" ∷ []) ∷ (codes "start" ∷ tree_words names t) ∷ ls)) (sym taken)
-
-pub whole_text : (names : List (List ℕ)) (t : Labelled) (commands : List Command) (i : ℕ) (old new : List ℕ) → i ≡ length commands → new ≡ old ++ spelled (main_lines names t (take i commands))
-    → new ≡ old ++ canonical_program names (main_program t commands)
-whole_text names t commands i old new all a =
-    a ∙ ap (λ cs. old ++ spelled (main_lines names t cs)) (ap (λ n. take n commands) all ∙ take-length commands) ∙ ap (λ text. old ++ text) (sym (main_spelled names t commands))

@@ -2,8 +2,6 @@ pub mod Program
 pub mod Canonical
 pub mod Form
 pub mod Letters
-pub mod Reading
-pub mod Parts
 pub mod Steps
 pub mod Gaps
 pub mod Trees

@@ -1,13 +1,5 @@
-ghost use Rattle.program_text.specs.Laws.{AllWellFormed, CombSound, CombComplete, CombOneText, ProgramsAgain, ProgramsOneText};
+ghost use Rattle.program_text.specs.Laws.{AllWellFormed, ProgramsAgain, ProgramsOneText};
 ghost use Rattle.program_text.specs.Trees.{TreeAgain, TreeExact};
-
-/// A comb program that is read has the form and its text is the canonical one; the canonical text of each comb
-/// program is read to it; and two comb programs never have one text.
-pub fn comb_texts()
-    ensures sound { CombSound }
-    ensures complete { CombComplete }
-    ensures one_text { CombOneText }
-{}
 
 /// Trees are read by their grammar: the pieces of a tree are this tree, and pieces that are a tree are its pieces.
 pub fn tree_grammar()

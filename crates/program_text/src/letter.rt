@@ -1,5 +1,5 @@
-ghost use Rattle.std.specs.Prelude.{◌≡◌};
-ghost use Rattle.program_text.specs.Letters.{letter_at, outcomes_of};
+ghost use Rattle.std.specs.Prelude.{◌≡◌, ◌<◌, ◌^◌, length};
+ghost use Rattle.program_text.specs.Letters.{letter_at, measurements, outcomes_of};
 
 use crate::plan::{Command, Sign};
 
@@ -64,4 +64,16 @@ impl Command {
             },
         }
     }
+}
+
+/// How many measurements there are.
+pub fn count_measurements(commands: &[Command]) -> u32
+    requires { length commands.now < 2 ^ 32 }
+    ensures { result ≡ measurements commands.now }
+{
+    let mut count = 0;
+    for command in commands {
+        count += command.outcomes();
+    }
+    count
 }

@@ -15,14 +15,9 @@
 //!   `program_in`).
 //! - *well formed program*: what texts can say (`specs/WellFormed.antt`).
 //! - *written program*: the canonical text of a program (`specs/Written.antt`).
-//! - *comb program*: a program of version 1 with the one site `main`, an admissible left-combed start of 2 to 16 strands,
-//!   and braids with one measurement behind them (`specs/Form.antt`); its canonical text (`specs/Canonical.antt`), and the
-//!   comb program whose canonical text a text is, if there is one (`specs/Reading.antt`).
 #![tactic(auto)]
 
-mod comb;
 mod command_line;
-mod commands;
 mod draft;
 mod fault;
 mod form;
@@ -38,22 +33,19 @@ mod plan;
 mod program;
 mod program_writing;
 mod push;
-mod reading;
 mod site_line;
-mod start;
 mod tree_reading;
 mod words;
 mod writing;
 
 pub use fault::{ProgramCause, ProgramFault};
-pub use form::{COMB_STRANDS, COMMAND_LIMIT};
+pub use form::COMMAND_LIMIT;
 pub use gaps::first_bad_gap;
-pub use laws::{comb_texts, program_texts, tree_grammar};
-pub use letter::Letter;
+pub use laws::{program_texts, tree_grammar};
+pub use letter::{Letter, count_measurements};
 pub use plan::{Command, Outcome, Plan, Sign, Site};
 pub use program::read_program;
 pub use program_writing::write_program;
-pub use reading::read_comb_program;
 
 #[cfg(test)]
 mod tests;

@@ -1,5 +1,5 @@
 use crate::{
-    Letter, Plan, ProgramCause, ProgramFault, first_bad_gap, read_comb_program, read_program,
+    Command, Letter, ProgramCause, ProgramFault, count_measurements, first_bad_gap, read_program,
     write_program,
 };
 use fusion_rules::{NameFault, Names, Rules};
@@ -13,23 +13,6 @@ fn two_names(alloc: Global) -> Result<Names, NameFault> {
     names.add(b"1")?;
     names.add(b"t")?;
     Ok(names)
-}
-
-#[test]
-fn reads_comb_programs(rt: HostRuntime) -> Result<(), Fail> {
-    let names = two_names(rt.alloc())?;
-    let count = names.count();
-    assert_eq!(rt; count, 2);
-    let mut rules = Rules::new(count);
-    assert!(rt; rules.allow(1, 1, 0).is_ok());
-    assert!(rt; rules.allow(1, 1, 1).is_ok());
-    let text = b"program 1\nstart ((t t):1 t):t\nbraid 2 -\nmeasure 1\n";
-    let plan = read_comb_program(rt.alloc(), &names, &rules, text)?;
-    assert_eq!(rt; plan.map_or(0, |plan: Plan| plan.sites.len()), 1);
-    let text = b"program 1\nstart ((t t):1 t):t\nmeasure 1\nbraid 2 -\n";
-    let plan = read_comb_program(rt.alloc(), &names, &rules, text)?;
-    assert!(rt; plan.is_none());
-    Ok(())
 }
 
 // Free spaces in a tree, a comment, two sites, a named outcome and a test of it.
@@ -110,7 +93,11 @@ fn finds_the_least_bad_gap(rt: HostRuntime) -> Result<(), Fail> {
 
 #[test]
 fn letters_of_commands(rt: HostRuntime) {
-    let command = crate::Command::Measure { gap: 2 };
+    let command = Command::Measure { gap: 2 };
     assert_eq!(rt; command.outcomes(), 1);
+    assert_eq!(rt;
+        count_measurements(&[command, Command::Raise { gap: 1 }]),
+        1
+    );
     assert!(rt; command.letter(3) == Letter::Charge { gap: 2, place: 3 });
 }

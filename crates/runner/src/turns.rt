@@ -9,7 +9,7 @@ ghost use Rattle.run_laws.specs.Turns.{turns};
 ghost use Rattle.site_schedule.specs.Legal.{IsWellFormed, letters_in};
 
 use outcome_rows::text_commands;
-use program_text::{Command, Letter, Plan};
+use program_text::{Letter, Plan, count_measurements};
 use site_schedule::{Schedule, letters_of};
 use std::alloc::{AllocError, Global};
 
@@ -29,18 +29,6 @@ pub(crate) fn turns_of(alloc: Global, plan: &Plan, schedule: &Schedule) -> Resul
 {
     let letters = letters_of(alloc, plan, schedule)?;
     let commands = text_commands(alloc, plan)?;
-    let places = count_outcomes(commands.as_slice());
+    let places = count_measurements(commands.as_slice());
     Ok(Turns { letters, places })
-}
-
-/// How many measurements there are.
-fn count_outcomes(commands: &[Command]) -> u32
-    requires { length commands.now ≤ COMMAND_LIMIT }
-    ensures { result ≡ measurements commands.now }
-{
-    let mut count = 0;
-    for command in commands {
-        count += command.outcomes();
-    }
-    count
 }

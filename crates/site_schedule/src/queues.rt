@@ -1,7 +1,6 @@
 //! What sites have left.
 
 ghost use Rattle.std.specs.Prelude.{◌≡◌, ◌≤◌, ◌+◌, ◌∷◌, [], length, map, IfOk, MatchOption};
-ghost use Rattle.program_text.specs.Letters.{measurements};
 ghost use Rattle.program_text.specs.Program.{program_of};
 ghost use Rattle.program_text.specs.WellFormed.{commands_in};
 ghost use Rattle.program_text.specs.declared.form.TheConstants.{COMMAND_LIMIT};
@@ -11,7 +10,7 @@ ghost use Rattle.site_schedule.specs.Queues.{all_left, letters_left};
 
 use crate::push::push;
 use crate::queue::Queue;
-use program_text::{Command, Letter, Plan};
+use program_text::{Letter, Plan, count_measurements};
 use std::alloc::{AllocError, Global};
 
 /// What each site has before the first turn.
@@ -24,21 +23,9 @@ pub(crate) fn queues_of(alloc: Global, plan: &Plan) -> Result<Vec<Queue>, AllocE
     for site in &plan.sites {
         let left = site.commands.as_slice();
         push(&mut queues, Queue { left, place })?;
-        place += count_outcomes(left);
+        place += count_measurements(left);
     }
     Ok(queues)
-}
-
-/// How many measurements there are.
-fn count_outcomes(commands: &[Command]) -> u32
-    requires { length commands.now ≤ COMMAND_LIMIT }
-    ensures { result ≡ measurements commands.now }
-{
-    let mut count = 0;
-    for command in commands {
-        count += command.outcomes();
-    }
-    count
 }
 
 /// The next letter of a site, by its number, which takes its turn. `None` where no such site has a command left.

@@ -1,10 +1,11 @@
 -- The moves of a text, or its first fault.
 use Rattle.std.specs.Prelude.{ℕ, ◌+◌, List, [], ◌∷◌, ◌++◌, Bool, ◌&&◌, ◌==◌, length, codes, if◌then◌else◌, Option, Some, None, Result, Ok, Err, ok_or}
+use Rattle.std.specs.Str.{bytes_eq}
 use Rattle.line_text.specs.Plain.{plain_number_of}
 use Rattle.line_text.specs.Text.{Found, Counted, Faulty, reading_of, words_of, word_in, has_word}
-use Rattle.program_text.specs.Reading.{sign_of}
 use Rattle.program_text.specs.Steps.{◌>>=◌}
 use Rattle.program_text.specs.declared.plan.Sign.{Sign}
+use Rattle.program_text.specs.declared.plan.Sign.TheVariants.{Plus, Minus}
 use Rattle.word_moves.specs.declared.fault.MovesCause.{MovesCause}
 use Rattle.word_moves.specs.declared.fault.MovesCause.TheVariants.{Line, Header, Command, Place}
 use Rattle.word_moves.specs.declared.moves.BraidMove.{BraidMove}
@@ -27,6 +28,9 @@ number_in words at = ok_or (plain_number_of (word_in words at)) Place
 -- the place of a line with one number
 abbrev pub place_in : List (List ℕ) → Result ℕ MovesCause
 place_in words = if length words == 2 then number_in words 1 else Err Command
+
+abbrev pub sign_of : List ℕ → Option Sign
+sign_of text = if bytes_eq text (codes "+") then Some Plus else (if bytes_eq text (codes "-") then Some Minus else None)
 
 -- an insertion of a sign
 abbrev pub insertion_of : List (List ℕ) → Option Sign → Result BraidMove MovesCause

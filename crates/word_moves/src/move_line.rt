@@ -2,8 +2,7 @@
 
 ghost use Rattle.std.specs.Prelude.{◌≡◌, Some};
 ghost use Rattle.line_text.specs.Text.{words_of};
-ghost use Rattle.program_text.specs.Reading.{sign_of};
-ghost use Rattle.word_moves.specs.Reading.{insertion_in, insertion_of, move_in, number_in, place_in};
+ghost use Rattle.word_moves.specs.Reading.{insertion_in, insertion_of, move_in, number_in, place_in, sign_of};
 
 use crate::fault::MovesCause;
 use crate::moves::BraidMove;

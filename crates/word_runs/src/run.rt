@@ -11,20 +11,8 @@ use crate::engine::Engine;
 use crate::fault::RunFault;
 use crate::live::{LiveWord, push_live};
 use crate::turn::run_turn;
-use program_text::{Command, Letter};
+use program_text::{Command, Letter, count_measurements};
 use std::alloc::{AllocError, Global};
-
-/// How many measurements there are.
-fn measurements(commands: &[Command]) -> u32
-    requires { length commands.now < 2 ^ 32 }
-    ensures { result ≡ measurements commands.now }
-{
-    let mut count = 0;
-    for command in commands {
-        count += command.outcomes();
-    }
-    count
-}
 
 /// A word without outcomes.
 fn zeros(alloc: Global, places: u32) -> Result<Vec<u8>, AllocError>
@@ -134,5 +122,5 @@ pub fn run_commands<E: Engine>(
         (run_of (E.told engine.now) 1 (letters 0 commands.now) (start_word (measurements commands.now) (E.seen engine.now start))) }
 {
     let letters = text_letters(alloc, commands)?;
-    run_letters(alloc, engine, &letters, measurements(commands), start)
+    run_letters(alloc, engine, &letters, count_measurements(commands), start)
 }

@@ -8,7 +8,7 @@ run_letters-requires-clause-fit g c =
     let e = g.E.Engine.told c.args.engine.now in
     let m = measurements c.args.commands.now in
     let all = letters_fit e m 0 c.args.commands.now (omega arith) c.requires.tests c.requires.gaps in
-    rw (c.measurements.ensures, c.deref.ensures.value, c.in_ok-letters.ensures) all
+    rw (c.count_measurements.ensures, c.deref.ensures.value, c.in_ok-letters.ensures) all
 
 pub run_letters-requires-clause-few : goal.run_letters-requires-clause-few
 run_letters-requires-clause-few g c =

@@ -1,6 +1,6 @@
 use Rattle.std.proofs.Common.{◌≡◌, ◌+◌, ◌≤◌, drop}
 use Rattle.program_text.specs.Letters.{measurements}
-use Rattle.word_runs.proofs.run.measurements.Given as goal
+use Rattle.program_text.proofs.letter.count_measurements.Given as goal
 
 -- those so far and those left are all
 abbrev pub invariant-loop-command : goal.invariant-loop-command
