@@ -117,12 +117,12 @@ record Nothing {A B : Type 0} (fault : Option A) (event : Option B) : Type 0 whe
   pub no_event : event ≡ None
 
 module _ (names : List (List ℕ)) where
-  nothing_where : (fault : Option RulesFault) (event : Option Event) → option_or (option_map (rules_line names) fault) (option_map (event_line names) event) ≡ None → Nothing fault event
+  pub nothing_where : (fault : Option RulesFault) (event : Option Event) → option_or (option_map (rules_line names) fault) (option_map (event_line names) event) ≡ None → Nothing fault event
   nothing_where None None none = record { no_fault = refl; no_event = refl }
   nothing_where None (Some event) none = absurd cc
   nothing_where (Some fault) event none = absurd cc
 
-  verdict_apart : (fault : Option RulesFault) (event : Option Event) (reply : Reply) (report : List ℕ)
+  pub verdict_apart : (fault : Option RulesFault) (event : Option Event) (reply : Reply) (report : List ℕ)
       → option_or (option_map (rules_line names) fault) (option_map (event_line names) event) ≡ Some reply → reply ≡ done report → ⊥
   verdict_apart None None reply report is e = absurd cc
   verdict_apart None (Some event) reply report is e = event_apart event.kind (event_words names event) report (some_same _ reply is ∙ e)

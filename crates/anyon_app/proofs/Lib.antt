@@ -7,4 +7,5 @@ mod JudgeLemmas
 pub mod LawLemmas
 pub mod RunLemmas
 pub mod LinkedLemmas
+mod MakeLemmas
 mod Worked

@@ -25,7 +25,7 @@ use Rattle.anyon_app.specs.Refusals.{comb_start_line, program_line, schedule_lin
 use Rattle.anyon_app.specs.Work.{Work, Says, reply_of, judged}
 use Rattle.anyon_app.specs.Categories.{named_of}
 use Rattle.anyon_app.specs.Verdicts.{category_verdict, symbols_in, unless}
-use Rattle.anyon_app.specs.Programs.{admitted_work, planned_work, program_of_text, program_or, program_work, report_or, scheduled_work, turns_of_program, turns_of_text, turns_or}
+use Rattle.anyon_app.specs.Programs.{admitted_work, outcomes_or, planned_work, program_of_text, program_or, program_work, report_or, scheduled_work, turns_of_program, turns_of_text, turns_or}
 use Rattle.anyon_app.specs.Comb.{comb_work, rows_of, start_line}
 use Rattle.anyon_app.specs.Run.{run_work, run_by_work, rows_work}
 use Rattle.anyon_app.specs.Trees.{trees_work, trees_by_work, states_work}
@@ -52,11 +52,11 @@ was_admitted next files name report went =
     }
 
 -- what a program text is read as
-program_is : (kind : text.Kind) (r : Result Program Fault) (plan : Program) → program_or kind r ≡ Ok plan → r ≡ Ok plan
+pub program_is : (kind : text.Kind) (r : Result Program Fault) (plan : Program) → program_or kind r ≡ Ok plan → r ≡ Ok plan
 program_is kind (Ok other) plan e = let same : other ≡ plan = cc in ap Ok same
 program_is kind (Err fault) plan e = absurd cc
 
-no_program : (kind : text.Kind) (r : Result Program Fault) (reply : Reply) (report : List ℕ) → program_or kind r ≡ Err reply → reply ≡ done report → ⊥
+pub no_program : (kind : text.Kind) (r : Result Program Fault) (reply : Reply) (report : List ℕ) → program_or kind r ≡ Err reply → reply ≡ done report → ⊥
 no_program kind (Ok plan) reply report is e = absurd cc
 no_program kind (Err fault) reply report is e =
     let same : program_line kind fault.line fault.cause ≡ reply = cc in
@@ -83,14 +83,14 @@ was_planned : (named : NamedSymbols) (next : Program → Work) (files : Files) (
 was_planned named next files name report went = was_program ProgramText named next files name report went
 
 -- a stop is no report
-stop_apart : (stop : RunStop) (report : List ℕ) → stop_line stop ≡ done report → ⊥
+pub stop_apart : (stop : RunStop) (report : List ℕ) → stop_line stop ≡ done report → ⊥
 stop_apart (Overflow turn) report e = limited_apart _ report e
 stop_apart (Branches turn count) report e = limited_apart _ report e
 stop_apart (Wide turn entries) report e = limited_apart _ report e
 
 -- where the evaluation ends, the report is that of the outcomes
 reported : {A : Type 0} (names : List (List ℕ)) (outcomes : Outcomes Ratio) (stated : Result A RunStop) (files : Files) (report : List ℕ)
-    → reply_of (judged (report_or names outcomes stated) (λ r. Says (done r))) files ≡ Some (done report) → report ≡ report_of names outcomes
+    → reply_of (judged (report_or names (outcomes_or outcomes stated)) (λ r. Says (done r))) files ≡ Some (done report) → report ≡ report_of names outcomes
 reported names outcomes (Ok evaluated) files report went = ap (λ (r : Reply). r.bytes) (sym (some_same _ (done report) went))
 reported names outcomes (Err stop) files report went = absurd (stop_apart stop report (some_same _ (done report) went))
 
@@ -110,7 +110,7 @@ schedule_apart sites (schedule.Early turn) report e = refused_apart _ report e
 schedule_apart sites (schedule.Unfinished site) report e = refused_apart _ report e
 schedule_apart sites schedule.Memory report e = refused_apart _ report e
 
-no_schedule : (plan : Program) (r : Result (List ℕ) ScheduleFault) (reply : Reply) (report : List ℕ) → turns_or plan r ≡ Err reply → reply ≡ done report → ⊥
+pub no_schedule : (plan : Program) (r : Result (List ℕ) ScheduleFault) (reply : Reply) (report : List ℕ) → turns_or plan r ≡ Err reply → reply ≡ done report → ⊥
 no_schedule plan (Ok turns) reply report is e = absurd cc
 no_schedule plan (Err fault) reply report is e =
     let same : schedule_line (map (λ site. site.name) plan.sites) fault ≡ reply = cc in

@@ -1,11 +1,12 @@
--- Worked values of the lines of a run's stops, of programs and of schedules.
-use Rattle.std.specs.Prelude.{◌≡◌, ◌++◌, [], ◌∷◌, Some, codes, decimal, refl}
+-- Worked values of the lines of a run's stops, of programs, of schedules and of numbers.
+use Rattle.std.specs.Prelude.{◌≡◌, ◌++◌, [], ◌∷◌, Some, Ok, Err, codes, decimal, refl}
 use Rattle.word_runs.specs.declared.fault.RunStop.TheVariants.{Overflow, Branches, Wide}
 use Rattle.program_text.specs.declared.fault.ProgramCause.TheVariants.{Inadmissible, Unlike}
 use Rattle.site_schedule.specs.declared.fault.ScheduleFault.TheVariants.{Header, TooMany, Unfinished}
 use Rattle.word_moves.specs.declared.moves.Verdict.TheVariants.{EndDiffers}
 use Rattle.anyon_app.specs.declared.texts.Kind.TheVariants.{Program, SecondProgram}
-use Rattle.anyon_app.specs.Refusals.{comb_start_line, program_line, schedule_line, stop_line, verdict_line}
+use Rattle.anyon_app.specs.Refusals.{comb_start_line, number_line, program_line, schedule_line, stop_line, verdict_line}
+use Rattle.anyon_app.specs.Make.{number_of}
 use Rattle.anyon_app.specs.Replies.{limited, refused}
 
 overflow_line : stop_line (Overflow 17) ≡ limited (codes "limit overflow turn " ++ (decimal 17 ++ 10 ∷ []))
@@ -40,3 +41,10 @@ second_line = refl
 
 end_line : verdict_line (EndDiffers 12) ≡ Some (refused (codes "refused not linked end " ++ (decimal 12 ++ 10 ∷ [])))
 end_line = refl
+
+number_refused : number_line ≡ refused (codes "refused number" ++ 10 ∷ [])
+number_refused = refl
+
+-- a plain number from 2 to 12
+numbers : (number_of (codes "2") ≡ Ok 2) × (number_of (codes "12") ≡ Ok 12) × (number_of (codes "1") ≡ Err number_line) × (number_of (codes "13") ≡ Err number_line) × (number_of (codes "05") ≡ Err number_line)
+numbers = (refl, refl, refl, refl, refl)

@@ -9,7 +9,7 @@ use Rattle.comb_run.specs.Evaluated.{evaluation_of}
 use Rattle.anyon_app.specs.Replies.{Reply, done}
 use Rattle.anyon_app.specs.Refusals.{comb_start_line}
 use Rattle.anyon_app.specs.Work.{Work, Says, judged}
-use Rattle.anyon_app.specs.Programs.{admitted_work, planned_work, report_or}
+use Rattle.anyon_app.specs.Programs.{admitted_work, outcomes_or, planned_work, report_or}
 use Rattle.anyon_app.specs.Verdicts.{symbols_in, unless}
 
 -- the start isn't left-combed
@@ -19,8 +19,8 @@ start_line plan = if is_left_comb plan.start then None else Some comb_start_line
 -- the report of the total and the rows by the comb operators, or where the stated evaluation on left-combed paths stops
 abbrev pub rows_of : NamedSymbols → Program → Result (List ℕ) Reply
 rows_of named plan =
-    report_or named.names (outcomes_of (symbols_in named) plan.start (commands_in plan.sites))
-    (evaluation_of (symbols_in named) plan.start (commands_in plan.sites))
+    report_or named.names (outcomes_or (outcomes_of (symbols_in named) plan.start (commands_in plan.sites))
+    (evaluation_of (symbols_in named) plan.start (commands_in plan.sites)))
 
 -- The category of the first text; what decides about it; the program, whose start is left-combed, and its rows.
 unfoldable pub comb_work : List ℕ → List ℕ → Work

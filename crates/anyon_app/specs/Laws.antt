@@ -1,22 +1,28 @@
 -- What replies say of categories and of runs, over the bytes of their texts.
 use Rattle.std.specs.Prelude.{◌≡◌, ◌≤◌, ℕ, List, length, Some, Ok}
 use Rattle.io_ports.specs.Ports.{Files}
+use Rattle.line_text.specs.Plain.{plain_number_of}
 use Rattle.symbol_table.specs.Laws.{IsLawful}
 use Rattle.law_events.specs.Verdicts.{EveryItemFits}
 use Rattle.category_text.specs.Named.{NamedSymbols}
 use Rattle.category_text.specs.Reading.{category_of}
 use Rattle.category_text.specs.Again.{SameSymbols}
 use Rattle.program_text.specs.Grammar.{program_in}
+use Rattle.program_text.specs.Letters.{measurements}
 use Rattle.program_text.specs.Program.{Program}
 use Rattle.program_text.specs.WellFormed.{commands_in}
 use Rattle.comb_laws.specs.Plans.{outcomes_of}
+use Rattle.category_maker.specs.MadeCategory.{made_category}
+use Rattle.category_maker.specs.MadeProgram.{made_program}
 use Rattle.outcome_report.specs.Report.{report_of}
+use Rattle.outcome_report.specs.Summary.{summary_of}
 use Rattle.anyon_app.specs.Replies.{done}
 use Rattle.anyon_app.specs.Work.{Work, reply_of, text_limit}
 use Rattle.anyon_app.specs.Verdicts.{symbols_in}
 use Rattle.anyon_app.specs.Check.{accepted, check_work}
 use Rattle.anyon_app.specs.Format.{format_work}
 use Rattle.anyon_app.specs.Linked.{linked_work}
+use Rattle.anyon_app.specs.Make.{make_work}
 
 -- The text of a name is there, is not too long, and is read as this category.
 pub record IsCategoryText (files : Files) (name : List ℕ) (named : NamedSymbols) : Type 0 where
@@ -109,3 +115,19 @@ abbrev pub LinkedHaveRows : NamedSymbols → Type 0
 LinkedHaveRows named =
     (files : Files) (category first second moves report : List ℕ) → IsCategoryText files category named
     → reply_of (linked_work category first second moves) files ≡ Some (done report) → HaveEqualRows files first second named
+
+-- A summary of the rows of the program that is made from a number, over a category with the symbols that are made from it.
+pub record HasMadeRows (word report : List ℕ) : Type 0 where
+  pub number : ℕ
+  pub word_is : plain_number_of word ≡ Some number
+  pub some : 2 ≤ number
+  pub few : number ≤ 12
+  pub named : NamedSymbols
+  pub same : SameSymbols (made_category number) named
+  pub lawful : IsLawful (symbols_in named)
+  pub report_is : report ≡ summary_of number (length (commands_in (made_program number).sites)) (measurements (commands_in (made_program number).sites))
+      (outcomes_of (symbols_in named) (made_program number).start (commands_in (made_program number).sites))
+
+-- whatever `make` finishes, it reports this summary
+abbrev pub MakesRows : Type 0
+MakesRows = (files : Files) (word report : List ℕ) → reply_of (make_work word) files ≡ Some (done report) → HasMadeRows word report

@@ -11,6 +11,7 @@ pub mod Comb
 pub mod Run
 pub mod Trees
 pub mod Linked
+pub mod Make
 pub mod Check
 pub mod Format
 pub mod Headline

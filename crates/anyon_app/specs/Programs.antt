@@ -1,7 +1,7 @@
 -- What program and schedule texts are to a command that runs one, and the category before them.
 use Rattle.std.specs.Prelude.{ℕ, List, map, Result, Ok, Err}
 use Rattle.cyclo_core.specs.Ratio.{Ratio}
-use Rattle.comb_laws.specs.Plans.{Outcomes}
+use Rattle.comb_laws.specs.Plans.{Outcomes, outcomes_of}
 use Rattle.word_runs.specs.declared.fault.RunStop.{RunStop}
 use Rattle.run_laws.specs.Turns.{text_order}
 use Rattle.site_schedule.specs.declared.fault.ScheduleFault.{ScheduleFault}
@@ -11,14 +11,16 @@ use Rattle.outcome_report.specs.Report.{report_of}
 use Rattle.category_text.specs.Named.{NamedSymbols}
 use Rattle.program_text.specs.Grammar.{program_in}
 use Rattle.program_text.specs.Program.{Program}
-use Rattle.program_text.specs.Steps.{Fault}
+use Rattle.program_text.specs.Steps.{Fault, ◌>>=◌}
+use Rattle.program_text.specs.WellFormed.{commands_in}
+use Rattle.runner.specs.Evaluated.{scheduled_weights}
 use Rattle.anyon_app.specs.declared.texts.Kind as text
 use Rattle.anyon_app.specs.declared.texts.Kind.TheVariants.{Category, Program as ProgramText, Schedule}
 use Rattle.anyon_app.specs.Replies.{Reply}
 use Rattle.anyon_app.specs.Refusals.{program_line, schedule_line, stop_line, too_long}
 use Rattle.anyon_app.specs.Work.{Work, read_work, judged}
 use Rattle.anyon_app.specs.Categories.{named_of}
-use Rattle.anyon_app.specs.Verdicts.{category_verdict, unless}
+use Rattle.anyon_app.specs.Verdicts.{category_verdict, symbols_in, unless}
 
 -- the category of a text; what decides about it
 abbrev pub admitted_work : List ℕ → (NamedSymbols → Work) → Work
@@ -56,7 +58,17 @@ scheduled_work schedule plan next = read_work (too_long Schedule) (turns_of_text
 abbrev pub turns_of_program : Program → List ℕ
 turns_of_program plan = text_order (letters_in plan)
 
--- the report of these outcomes, unless the evaluation stops
-abbrev pub report_or : {A : Type 0} → List (List ℕ) → Outcomes Ratio → Result A RunStop → Result (List ℕ) Reply
-report_or names outcomes (Ok evaluated) = Ok (report_of names outcomes)
-report_or names outcomes (Err stop) = Err (stop_line stop)
+-- these outcomes, unless the evaluation stops
+abbrev pub outcomes_or : {A : Type 0} → Outcomes Ratio → Result A RunStop → Result (Outcomes Ratio) Reply
+outcomes_or outcomes (Ok evaluated) = Ok outcomes
+outcomes_or outcomes (Err stop) = Err (stop_line stop)
+
+-- the total and the rows by the comb operators in the order of the text, or where the stated evaluation on trees, by these
+-- turns, stops
+abbrev pub outcomes_by : NamedSymbols → Program → List ℕ → Result (Outcomes Ratio) Reply
+outcomes_by named plan turns =
+    outcomes_or (outcomes_of (symbols_in named) plan.start (commands_in plan.sites)) (scheduled_weights (symbols_in named) plan turns)
+
+-- the report of outcomes
+abbrev pub report_or : List (List ℕ) → Result (Outcomes Ratio) Reply → Result (List ℕ) Reply
+report_or names stated = stated >>= (λ outcomes. Ok (report_of names outcomes))

@@ -75,6 +75,10 @@ verdict_line (verdict.EndDiffers place) = Some (not_linked (codes "end") place)
 abbrev pub comb_start_line : Reply
 comb_start_line = refusal_of (codes "comb" ∷ codes "start" ∷ [])
 
+-- a number that isn't from 2 to 12
+abbrev pub number_line : Reply
+number_line = refusal_of (codes "number" ∷ [])
+
 -- fusion rules that aren't those of a fusion category
 abbrev pub rules_line : List (List ℕ) → RulesFault → Reply
 rules_line names (NotCommutative a b c) = refusal_of (codes "commutative" ∷ label_names names (a ∷ b ∷ c ∷ []))

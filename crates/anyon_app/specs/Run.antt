@@ -2,19 +2,13 @@
 use Rattle.std.specs.Prelude.{ℕ, List, Result}
 use Rattle.category_text.specs.Named.{NamedSymbols}
 use Rattle.program_text.specs.Program.{Program}
-use Rattle.program_text.specs.WellFormed.{commands_in}
-use Rattle.comb_laws.specs.Plans.{outcomes_of}
-use Rattle.runner.specs.Evaluated.{scheduled_weights}
 use Rattle.anyon_app.specs.Replies.{Reply, done}
 use Rattle.anyon_app.specs.Work.{Work, Says, judged}
-use Rattle.anyon_app.specs.Programs.{admitted_work, planned_work, report_or, scheduled_work, turns_of_program}
-use Rattle.anyon_app.specs.Verdicts.{symbols_in}
+use Rattle.anyon_app.specs.Programs.{admitted_work, outcomes_by, planned_work, report_or, scheduled_work, turns_of_program}
 
--- the report of the total and the rows by the comb operators in the order of the text, or where the stated evaluation on
--- trees, by these turns, stops
+-- the report of these outcomes
 abbrev pub rows_of : NamedSymbols → Program → List ℕ → Result (List ℕ) Reply
-rows_of named plan turns =
-    report_or named.names (outcomes_of (symbols_in named) plan.start (commands_in plan.sites)) (scheduled_weights (symbols_in named) plan turns)
+rows_of named plan turns = report_or named.names (outcomes_by named plan turns)
 
 abbrev pub rows_work : NamedSymbols → Program → List ℕ → Work
 rows_work named plan turns = judged (rows_of named plan turns) (λ report. Says (done report))

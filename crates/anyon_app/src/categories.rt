@@ -22,8 +22,8 @@ pub fn load_category<S: Shelf>(alloc: Global, shelf: &mut S, name: &str) -> Resu
     category(alloc, &text)
 }
 
-// The category of these bytes.
-fn category(alloc: Global, text: &[u8]) -> Result<Named, Stop>
+/// The category of these bytes.
+pub fn category(alloc: Global, text: &[u8]) -> Result<Named, Stop>
     requires { length text.now < 2 ^ 32 - 1 }
     ensures gives { Gives seen result (named_of text.now) }
     ensures counts { IfOk result (λ named. length named.names ≡ named.draft.rules.count) }

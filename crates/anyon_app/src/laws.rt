@@ -2,14 +2,17 @@
 ghost use Rattle.std.specs.Prelude.{◌≡◌, ◌≢◌, ℕ, IsSome, List, length};
 ghost use Rattle.category_text.specs.Named.{named_draft};
 ghost use Rattle.io_ports.specs.Memory.{files_of};
-ghost use Rattle.anyon_app.specs.Work.{reply_of};
-ghost use Rattle.anyon_app.specs.Headline.{work_of};
+ghost use Rattle.io_ports.specs.Ports.{Rose};
+ghost use Rattle.anyon_app.specs.Work.{WantsNone, reply_of};
+ghost use Rattle.anyon_app.specs.Headline.{HasReply, IsAnswer, IsGiven, work_of};
 ghost use Rattle.anyon_app.specs.Comb.{comb_work};
-ghost use Rattle.anyon_app.specs.Laws.{AcceptedIsLawful, FinishedIsLawful, FormatSettles, FormattedAlike, LawfulIsAccepted, LinkedHaveRows, ReportAlike, ReportsRows};
+ghost use Rattle.anyon_app.specs.Laws.{AcceptedIsLawful, FinishedIsLawful, FormatSettles, FormattedAlike, LawfulIsAccepted, LinkedHaveRows, MakesRows, ReportAlike, ReportsRows};
+ghost use Rattle.anyon_app.specs.Make.{make_work};
 ghost use Rattle.anyon_app.specs.Run.{run_by_work, run_work};
 ghost use Rattle.anyon_app.specs.Trees.{trees_by_work, trees_work};
 
 use crate::{Status, anyon};
+use category_maker::{made_categories, made_programs};
 use category_text::canonical_texts;
 use cyclo_core::Cyclo;
 use fusion_rules::Names;
@@ -21,7 +24,7 @@ use symbol_table::Category;
 use word_moves::linked_programs;
 
 /// The top call over a shelf whose reads fail only where there is no such name, and on which each
-/// text that is reached stands: no read fault comes.
+/// text that is reached stands: no read fault comes, and the reply is that over the texts of the shelf.
 pub fn over_sure_shelf<W: Sink>(
     alloc: Global,
     words: &[String],
@@ -29,7 +32,13 @@ pub fn over_sure_shelf<W: Sink>(
     sink: &mut W,
 ) -> Status
     requires { IsSome (reply_of (work_of words.now) (files_of shelf.old.files)) }
-    ensures { result ≢ Status.ReadFault }
+    ensures read { result ≢ Status.ReadFault }
+
+    // The status and the bytes are the reply's.
+    ensures answered { IsAnswer result → HasReply (work_of words.now) (files_of shelf.old.files) (IsGiven result (W.taken sink.old) (W.taken sink.new)) }
+
+    ensures unwritten { result ≡ Status.WriteFault → Rose (W.faults sink.old) (W.faults sink.new) }
+    ensures no_memory { result ≡ Status.NoMemory → W.taken sink.new ≡ W.taken sink.old }
 {
     anyon(alloc, words, shelf, sink)
 }
@@ -76,4 +85,14 @@ pub fn linked_replies(names: &Names, category: &Category<Cyclo>)
     program_texts();
     linked_programs();
     linked(category);
+}
+
+/// What `make` reports: a summary of the rows of the made program over a lawful category with the made symbols, by the comb
+/// operators in the order of the text. No text of the shelf is wanted, so the reply is the same over every shelf.
+pub fn make_replies()
+    ensures rows { MakesRows }
+    ensures alone { (word : List ℕ) → WantsNone (make_work word) }
+{
+    made_categories();
+    made_programs();
 }

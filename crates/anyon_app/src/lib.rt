@@ -11,7 +11,7 @@
 //!   (`specs/Headline.antt`, [`anyon`]).
 //! - *category replies*: what the commands say of categories, over the bytes of their texts (`specs/Laws.antt`,
 //!   [`category_replies`]); *run replies*: what `run` and `comb` write ([`run_replies`]), and what
-//!   `linked` says of programs ([`linked_replies`]).
+//!   `linked` says of programs ([`linked_replies`]), and what `make` reports ([`make_replies`]).
 #![tactic(auto)]
 
 mod categories;
@@ -23,6 +23,7 @@ mod judge;
 mod laws;
 mod lines;
 mod linked;
+mod make;
 mod programs;
 mod refusals;
 mod run;
@@ -32,7 +33,7 @@ mod texts;
 mod top;
 mod trees;
 
-pub use laws::{category_replies, linked_replies, over_sure_shelf, run_replies};
+pub use laws::{category_replies, linked_replies, make_replies, over_sure_shelf, run_replies};
 pub use status::Status;
 use stop::Stop;
 pub use top::anyon;

@@ -9,11 +9,11 @@ ghost use Rattle.anyon_app.specs.Stages.{Gives, Passes};
 ghost use Rattle.outcome_rows.specs.Rows.{outcomes_in};
 ghost use Rattle.outcome_report.specs.Report.{report_of};
 ghost use Rattle.site_schedule.specs.Legal.{IsLegal, IsWellFormed};
-ghost use Rattle.anyon_app.specs.Programs.{admitted_work, program_of_text, program_work, scheduled_work, turns_of_program, turns_of_text};
+ghost use Rattle.anyon_app.specs.Programs.{admitted_work, outcomes_by, program_of_text, program_work, scheduled_work, turns_of_program, turns_of_text};
 
 use crate::categories::load_category;
 use crate::judge::{Admitted, judge};
-use crate::refusals::{program_line, schedule_line};
+use crate::refusals::{program_line, schedule_line, stop_line};
 use crate::stop::Stop;
 use crate::texts::{Kind, text};
 use cyclo_core::Cyclo;
@@ -24,6 +24,7 @@ use outcome_rows::Rows;
 use program_text::{Plan, ProgramFault, read_program};
 use site_schedule::{Schedule, read_schedule, text_order};
 use std::alloc::Global;
+use word_runs::RunFault;
 
 /// The category of a text, judged by its rules and its laws.
 pub fn load_admitted<S: Shelf>(alloc: Global, shelf: &mut S, name: &str) -> Result<Admitted, Stop>
@@ -50,8 +51,8 @@ pub fn load_program<S: Shelf>(
     program(alloc, kind, admitted, &text)
 }
 
-// The program of these bytes.
-fn program(alloc: Global, kind: Kind, admitted: &Admitted, text: &[u8]) -> Result<Plan, Stop>
+/// The program of these bytes.
+pub fn program(alloc: Global, kind: Kind, admitted: &Admitted, text: &[u8]) -> Result<Plan, Stop>
     requires short { length text.now < 2 ^ 32 - 1 }
     requires counts { length admitted.now.names ≡ admitted.now.category.rules.count }
     ensures gives { Gives program_of result (program_of_text kind (named_draft admitted.now.names admitted.now.category) text.now) }
@@ -79,8 +80,8 @@ pub fn load_schedule<S: Shelf>(
     schedule(alloc, plan, &text)
 }
 
-// The schedule of these bytes.
-fn schedule(alloc: Global, plan: &Plan, text: &[u8]) -> Result<Schedule, Stop>
+/// The schedule of these bytes.
+pub fn schedule(alloc: Global, plan: &Plan, text: &[u8]) -> Result<Schedule, Stop>
     requires short { length text.now < 2 ^ 32 - 1 }
     requires well_formed { IsWellFormed (program_of plan.now) }
     ensures gives { Gives (λ schedule. schedule.turns.items) result (turns_of_text (program_of plan.now) text.now) }
@@ -101,6 +102,24 @@ pub fn text_schedule(alloc: Global, plan: &Plan) -> Result<Schedule, Stop>
     match text_order(alloc, plan) {
         Ok(schedule) => Ok(schedule),
         Err(_) => Err(Stop::Memory),
+    }
+}
+
+/// The total and the rows of a run on trees by a schedule.
+pub fn outcomes(
+    alloc: Global,
+    admitted: &Admitted,
+    plan: &Plan,
+    schedule: &Schedule,
+) -> Result<Rows<Cyclo>, Stop>
+    requires program { IsProgram (fuses admitted.now.category.rules) admitted.now.category.rules.count (program_of plan.now) }
+    requires legal { IsLegal (program_of plan.now) schedule.now.turns.items }
+    ensures { Gives outcomes_in result (outcomes_by (named_draft admitted.now.names admitted.now.category) (program_of plan.now) schedule.now.turns.items) }
+{
+    match runner::run(alloc, &admitted.category, plan, schedule) {
+        Ok(rows) => Ok(rows),
+        Err(RunFault::Stop(stop)) => Err(stop_line(alloc, stop)),
+        Err(RunFault::Memory) => Err(Stop::Memory),
     }
 }
 

@@ -2,7 +2,7 @@
 ghost use Rattle.std.specs.Prelude.{◌≡◌, ◌∷◌, [], IfOk, codes, map, slice_index_or, string_bytes};
 ghost use Rattle.anyon_app.specs.Stages.{Gives, StopsWith};
 ghost use Rattle.anyon_app.specs.Verdicts.{unless};
-ghost use Rattle.anyon_app.specs.Refusals.{category_line, comb_start_line, event_line, event_words, kind_word, moves_line, not_linked, program_line, refused_line, rules_line, schedule_line, stop_line, too_long, turn_line, verdict_line};
+ghost use Rattle.anyon_app.specs.Refusals.{category_line, comb_start_line, event_line, event_words, kind_word, moves_line, not_linked, number_line, program_line, refused_line, rules_line, schedule_line, stop_line, too_long, turn_line, verdict_line};
 ghost use Rattle.anyon_app.specs.Lines.{line_of, refusal_of};
 
 use crate::causes::{category_words, line_words, moves_words};
@@ -144,6 +144,13 @@ pub fn verdict_line(alloc: Global, verdict: Verdict) -> Result<(), Stop>
         Verdict::NoMove { number } => Err(not_linked(alloc, "move", number)),
         Verdict::EndDiffers { place } => Err(not_linked(alloc, "end", place)),
     }
+}
+
+/// The stop at a number that nothing is made of.
+pub fn number_line(alloc: Global) -> Stop
+    ensures { StopsWith number_line result }
+{
+    refusal(alloc, &["number"])
 }
 
 /// The stop at a start that isn't left-combed.

@@ -9,15 +9,15 @@ ghost use Rattle.site_schedule.specs.Legal.{IsLegal};
 ghost use Rattle.anyon_app.specs.Run.{rows_of, run_by_work, run_work};
 
 use crate::judge::Admitted;
-use crate::programs::{load_admitted, load_program, load_schedule, text_schedule, written};
-use crate::refusals::stop_line;
+use crate::programs::{
+    load_admitted, load_program, load_schedule, outcomes, text_schedule, written,
+};
 use crate::stop::Stop;
 use crate::texts::Kind;
 use io_ports::Shelf;
 use program_text::Plan;
 use site_schedule::Schedule;
 use std::alloc::Global;
-use word_runs::RunFault;
 
 /// Reads a category and judges it, reads a program, runs it on trees in the order of the text and reports
 /// its rows. The category is judged before the program is read.
@@ -62,10 +62,6 @@ fn rows(
     requires legal { IsLegal (program_of plan.now) schedule.now.turns.items }
     ensures { Gives (λ report. report.items) result (rows_of (named_draft admitted.now.names admitted.now.category) (program_of plan.now) schedule.now.turns.items) }
 {
-    let rows = match runner::run(alloc, &admitted.category, plan, schedule) {
-        Ok(rows) => rows,
-        Err(RunFault::Stop(stop)) => return Err(stop_line(alloc, stop)),
-        Err(RunFault::Memory) => return Err(Stop::Memory),
-    };
+    let rows = outcomes(alloc, admitted, plan, schedule)?;
     written(alloc, &admitted.names, &rows)
 }

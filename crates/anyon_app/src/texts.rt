@@ -1,7 +1,9 @@
 // The texts of a command.
-ghost use Rattle.std.specs.Prelude.{◌≡◌, ◌≤◌, IfOk, vec_len};
+ghost use Rattle.std.specs.Prelude.{◌≡◌, ◌≤◌, IfOk, length, vec_len};
 ghost use Rattle.anyon_app.specs.Work.{text_limit, text_work};
-ghost use Rattle.anyon_app.specs.Stages.{Loads, Passes};
+ghost use Rattle.anyon_app.specs.Stages.{Gives, Loads, Passes};
+ghost use Rattle.anyon_app.specs.Make.{size_verdict};
+ghost use Rattle.anyon_app.specs.Verdicts.{unless};
 ghost use Rattle.anyon_app.specs.Refusals.{kind_word, too_long};
 
 use crate::refusals::too_long;
@@ -43,6 +45,17 @@ pub fn text<S: Shelf>(alloc: Global, shelf: &mut S, kind: Kind, name: &str) -> R
     ensures short { IfOk result (λ text. vec_len text ≤ text_limit) }
 {
     loaded(alloc, shelf, kind, name)
+}
+
+/// Refuses a text in hand of more than 4,194,304 bytes.
+pub fn within_limit(alloc: Global, kind: Kind, text: &[u8]) -> Result<(), Stop>
+    ensures gives { Gives (λ _. tt) result (unless (size_verdict kind text.now)) }
+    ensures short { IfOk result (λ _. length text.now ≤ text_limit) }
+{
+    if text.len() > TEXT_LIMIT {
+        return Err(too_long(alloc, kind));
+    }
+    Ok(())
 }
 
 fn loaded<S: Shelf>(alloc: Global, shelf: &mut S, kind: Kind, name: &str) -> Result<Vec<u8>, Stop>

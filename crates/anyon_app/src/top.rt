@@ -10,6 +10,7 @@ use crate::check::check;
 use crate::comb::comb;
 use crate::format::format;
 use crate::linked::linked;
+use crate::make::make;
 use crate::run::{run, run_by};
 use crate::trees::{trees, trees_by};
 use crate::{Status, Stop};
@@ -80,6 +81,7 @@ pub fn anyon<S: Shelf, W: Sink>(
 enum Command<'a> {
     Check(&'a str),
     Format(&'a str),
+    Make(&'a str),
     Comb(&'a str, &'a str),
     Run(&'a str, &'a str),
     Trees(&'a str, &'a str),
@@ -100,6 +102,7 @@ fn command_of(words: &[String]) -> Option<Command<'_>>
         [command, category] if command.as_str() == "format" => {
             Some(Command::Format(category.as_str()))
         }
+        [command, number] if command.as_str() == "make" => Some(Command::Make(number.as_str())),
         [command, category, program] if command.as_str() == "comb" => {
             Some(Command::Comb(category.as_str(), program.as_str()))
         }
@@ -132,6 +135,7 @@ fn work<S: Shelf>(alloc: Global, command: Command<'_>, shelf: &mut S) -> Result<
     match command {
         Command::Check(category) => check(alloc, shelf, category),
         Command::Format(category) => format(alloc, shelf, category),
+        Command::Make(number) => make(alloc, number),
         Command::Comb(category, program) => comb(alloc, shelf, category, program),
         Command::Run(category, program) => run(alloc, shelf, category, program),
         Command::Trees(category, program) => trees(alloc, shelf, category, program),

@@ -8,6 +8,7 @@ use Rattle.tree_shapes.specs.Outlines.{Outline, Tip, Branch}
 use Rattle.recouple.specs.States.{State}
 use Rattle.outcome_report.specs.Labels.{label_names}
 use Rattle.outcome_report.specs.Report.{report_of}
+use Rattle.outcome_report.specs.Summary.{summary_of}
 use Rattle.outcome_report.specs.TreeReport.{shape_text, tree_report_of}
 
 abbrev names : List (List ℕ)
@@ -38,6 +39,16 @@ empty_word = refl
 no_rows : report_of names (record { total = fifth (pos 0) (pos 0) (pos 0) (pos 0); rows = [] }) ≡ codes "total 0\n"
 unfolding digits spelled_number trimmed
 no_rows = refl
+
+-- a summary with two rows, and one without
+summary_of_rows : summary_of 5 2048 512 (record { total = fifth (pos 2) (pos 0) (pos 1) (pos 1); rows = ((0 ∷ []), fifth (pos 5) (pos 0) (pos 3) (pos 3)) ∷ ((1 ∷ []), fifth (negsuc 2) (pos 0) (negsuc 1) (negsuc 1)) ∷ [] })
+    ≡ codes "made 5\ncommands 2048\nmeasurements 512\ntotal 2,0,1,1\noutcomes 2\nweight 5,0,3,3\n"
+unfolding digits spelled_number trimmed
+summary_of_rows = refl
+
+summary_of_none : summary_of 12 3 1 (record { total = fifth (pos 0) (pos 0) (pos 0) (pos 0); rows = [] }) ≡ codes "made 12\ncommands 3\nmeasurements 1\ntotal 0\noutcomes 0\nweight 0\n"
+unfolding digits spelled_number trimmed
+summary_of_none = refl
 
 -- the live words of the same measurement
 abbrev middle : Outline

@@ -47,7 +47,11 @@ fn extend_report(
 }
 
 #[tactic(auto, using(line_text::proofs::WritingLemmas::still_in_front, line_text::proofs::WritingLemmas::in_front))]
-fn extend_total(alloc: Global, total: &Number, out: &mut Vec<u8>) -> Result<(), AllocError>
+pub(crate) fn extend_total(
+    alloc: Global,
+    total: &Number,
+    out: &mut Vec<u8>,
+) -> Result<(), AllocError>
     ensures { Extends result out.old.items out.new.items (spelled (total_words total.now ∷ [])) }
 {
     out.extend_from_slice(b"total")?;

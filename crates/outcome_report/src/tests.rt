@@ -3,7 +3,7 @@ ghost use Rattle.cyclo_core.specs.Ratio.{Ratio};
 ghost use Rattle.tree_shapes.specs.Outlines.{size};
 ghost use Rattle.amp_store.specs.Amplitudes.{amplitude_at};
 
-use crate::{report, tree_report, write_labels};
+use crate::{Counts, report, summary, tree_report, write_labels};
 use amp_store::{Amps, Key};
 use arrayvec::ArrayVec;
 use cyclo_core::Cyclo;
@@ -140,6 +140,41 @@ amp 1 t t 0,-1
 word t
 amp t t 1 1,0,1,1
 amp t t t 2,0,1,1
+";
+    assert!(rt; out.as_slice() == expected.as_slice());
+    Ok(())
+}
+
+#[test]
+fn summarizes(rt: HostRuntime) -> Result<(), Fail> {
+    let alloc = rt.alloc();
+    let ring = Cyclo::new(5)?;
+    let counts = Counts {
+        number: 5,
+        commands: 2048,
+        measurements: 512,
+    };
+    let mut rows = Rows {
+        total: read_number(&ring, b"2,0,1,1")?,
+        list: Vec::new(alloc),
+    };
+    let mut out = Vec::new(alloc);
+    summary(alloc, counts, &rows, &mut out)?;
+    rows.list.push(row(alloc, &ring, &[0], b"5,0,3,3")?)?;
+    rows.list.push(row(alloc, &ring, &[1], b"-3,0,-2,-2")?)?;
+    summary(alloc, counts, &rows, &mut out)?;
+    let expected = b"made 5
+commands 2048
+measurements 512
+total 2,0,1,1
+outcomes 0
+weight 0
+made 5
+commands 2048
+measurements 512
+total 2,0,1,1
+outcomes 2
+weight 5,0,3,3
 ";
     assert!(rt; out.as_slice() == expected.as_slice());
     Ok(())
