@@ -172,7 +172,7 @@ impl Cyclo {
         gcd(u128::from(k), u128::from(root)) == 1
     }
 
-    /// The image of a number under the map of rings that sends z to z^k.
+    /// The image of a number under the map of rings that sends z to z^k, for an exponent k ([`Cyclo::is_exponent`]).
     ///
     /// Its numerator at j is the sum over a of that of x at a times the coefficient of z^j in z^(a k); it is too
     /// large exactly where the same sum of magnitudes is above 2^127 - 1, for some j below phi(N). The denominator
