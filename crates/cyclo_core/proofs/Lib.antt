@@ -1,5 +1,8 @@
 pub mod CancelLemmas
+pub mod ExponentLemmas
 pub mod GivenLemmas
+pub mod ImageLemmas
 pub mod NumberLemmas
 pub mod SmallLemmas
 pub mod SumLemmas
+mod Tried

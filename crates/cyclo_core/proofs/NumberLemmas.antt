@@ -15,6 +15,7 @@ use Rattle.poly_core.proofs.PowerLemmas.{rho_past}
 use Rattle.cyclo_core.specs.Content.{content, quotient, quotient-back, content-divides-first}
 use Rattle.cyclo_core.specs.CycloLaws.{in_front, behind, at-tabulate, tabulate-nought, same_number, le_of, test_of, and_true, same_ratio_is}
 use Rattle.cyclo_core.specs.Fraction.{IsProper, common-reduce, common_pos, reduce-scale, positive_of, product_pos}
+use Rattle.cyclo_core.specs.Image.{image_of, image_over, image_term, image_size, image_fits}
 use Rattle.cyclo_core.specs.Layers.{ratio}
 use Rattle.cyclo_core.specs.Ratio.{Ratio, IsNumber, most, tabulate, reduced, is_held, held, coefficient, under, product_at, product_term, product_size, conjugate_over, conjugate_term, conjugate_size, sum_size, ring_at}
 use Rattle.cyclo_core.specs.Sums.{int_sum}
@@ -135,6 +136,9 @@ product_past N x y j le = int_sum-zeros (degree N) _ (λ a. int_sum-zeros (degre
 pub conjugate_past : (N : ℕ) (x : Sequence) (j : ℕ) → degree N ≤ j → conjugate_over N x j ≡ pos 0
 conjugate_past N x j le = int_sum-zeros (degree N) (conjugate_term N x j) (λ a. times-zero _ _ (rho_past N ((order N - a) % order N) j le))
 
+pub image_past : (N k : ℕ) (x : Sequence) (j : ℕ) → degree N ≤ j → image_over N k x j ≡ pos 0
+image_past N k x j le = int_sum-zeros (degree N) (image_term N k x j) (λ a. times-zero _ _ (rho_past N ((a * k) % order N) j le))
+
 -- sixteen numbers that are those of a sequence below phi(N), and zero from there on
 pub filled_is : (N : ℕ) (zs : List ℤ) (f : Sequence) → ((j : ℕ) → j < degree N → at zs j ≡ f j) → ((j : ℕ) → degree N ≤ j → at zs j ≡ pos 0) → ((j : ℕ) → degree N ≤ j → f j ≡ pos 0) → at zs ≡ f
 filled_is N zs f low high past =
@@ -165,6 +169,15 @@ pub conjugate_value : (N : ℕ) (x z : Ratio) (nums : List ℤ) → 0 < x.denomi
 conjugate_value N x z nums px is low high =
     is
     ∙ ap₂ reduced (filled_is N nums (conjugate_over N (at x.numerators)) low high (conjugate_past N (at x.numerators))) (under_is x px)
+
+pub image_value : (N k : ℕ) (x z : Ratio) (nums : List ℤ) → 0 < x.denominator
+    → z ≡ reduced (at nums) x.denominator
+    → ((j : ℕ) → j < degree N → at nums j ≡ image_over N k (at x.numerators) j)
+    → ((j : ℕ) → degree N ≤ j → at nums j ≡ pos 0)
+    → z ≡ image_of N k x
+image_value N k x z nums px is low high =
+    is
+    ∙ ap₂ reduced (filled_is N nums (image_over N k (at x.numerators)) low high (image_past N k (at x.numerators))) (under_is x px)
 
 pub negative_value : (N : ℕ) (x z : Ratio) (nums : List ℤ) → 0 < x.denominator → IsTrue ((ring_at N).member x)
     → z ≡ reduced (at nums) x.denominator
@@ -243,6 +256,9 @@ sum_fits_is N x y u v left right =
 
 pub conjugate_fits_is : (N : ℕ) (x : Ratio) → IsTrue ((ring_at N).conjugate_fits x) ↔ ((j : ℕ) → j < degree N → conjugate_size N (at x.numerators) j ≤ 2 ^ 127 - 1)
 conjugate_fits_is N x = all_fit (degree N) (conjugate_size N (at x.numerators))
+
+pub image_fits_is : (N k : ℕ) (x : Ratio) → IsTrue (image_fits N k x) ↔ ((j : ℕ) → j < degree N → image_size N k (at x.numerators) j ≤ 2 ^ 127 - 1)
+image_fits_is N k x = all_fit (degree N) (image_size N k (at x.numerators))
 
 -- ---- the numbers zero and one
 one_factor : (k m : ℕ) → k * m ≡ 1 → k ≡ 1

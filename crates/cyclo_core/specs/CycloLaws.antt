@@ -68,7 +68,7 @@ behind n j x y le = let t : ltb j n ≡ false = grind (arith, nat_tests) in ap (
 pub fraction_proper : (n : ℕ) (v : Ratio) → IsProper n (fraction n v)
 fraction_proper n v = record { positive = omega arith; below = record { past = λ j le. behind n j (at v.numerators j) (pos 0) le } }
 
-fraction-ratio : (n : ℕ) → n ≤ 16 → (p : Fraction) → IsProper n p → fraction n (ratio p) ≡ p
+pub fraction-ratio : (n : ℕ) → n ≤ 16 → (p : Fraction) → IsProper n p → fraction n (ratio p) ≡ p
 fraction-ratio n small p h =
     let positive = h.positive in
     same
@@ -172,35 +172,35 @@ module _ (r : Root) (g : IsGood r) where
   fp : (x : Ratio) → IsProper n (F x)
   fp x = fraction_proper n x
 
-  back : (q : Fraction) → IsProper n q → F (ratio (reduce n q)) ≡ reduce n q
+  pub back : (q : Fraction) → IsProper n q → F (ratio (reduce n q)) ≡ reduce n q
   back q h = fraction-ratio n g.small (reduce n q) (IsProper-reduce n q h)
 
   pub member_of : (q : Fraction) → IsProper n q → IsTrue (R.member (ratio (reduce n q)))
   member_of q h = (same_ratio_is _ _).1 (ap ratio (sym (ap (reduce n) (back q h) ∙ reduce_twice n q h)))
 
-  itself : (x : Ratio) → IsTrue (R.member x) → ratio (reduce n (F x)) ≡ x
+  pub itself : (x : Ratio) → IsTrue (R.member x) → ratio (reduce n (F x)) ≡ x
   itself x m = sym ((same_ratio_is _ _).0 m)
 
-  zero_proper : IsProper n (whole nought)
+  pub zero_proper : IsProper n (whole nought)
   zero_proper = record { positive = omega arith; below = record { past = λ j le. refl } }
 
-  one_proper : IsProper n (whole (unit zero))
+  pub one_proper : IsProper n (whole (unit zero))
   one_proper = record { positive = omega arith; below = record { past = past } }
     where
       past : (j : ℕ) → n ≤ j → unit zero j ≡ pos 0
       past zero le = absurd (omega arith)
       past (suc j) le = refl
 
-  zero_back : F (ratio (whole nought)) ≡ whole nought
+  pub zero_back : F (ratio (whole nought)) ≡ whole nought
   zero_back = fraction-ratio n g.small (whole nought) zero_proper
 
-  one_back : F (ratio (whole (unit zero))) ≡ whole (unit zero)
+  pub one_back : F (ratio (whole (unit zero))) ≡ whole (unit zero)
   one_back = fraction-ratio n g.small (whole (unit zero)) one_proper
 
-  ps : (x y : Ratio) → IsProper n (sum (F x) (F y))
+  pub ps : (x y : Ratio) → IsProper n (sum (F x) (F y))
   ps x y = IsProper-sum n (F x) (F y) (fp x) (fp y)
 
-  pt : (x y : Ratio) → IsProper n (times r (F x) (F y))
+  pub pt : (x y : Ratio) → IsProper n (times r (F x) (F y))
   pt x y = IsProper-times d P top low (F x) (F y) (fp x) (fp y)
 
   pc : (x : Ratio) → IsProper n (turned r (F x))

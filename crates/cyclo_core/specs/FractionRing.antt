@@ -201,7 +201,7 @@ module _ (d : ℕ) (P : Sequence) (top : P (suc d) ≡ pos 1) (P_below : IsBelow
     pub IsProper-image : (p : Fraction) → IsProper n p → IsProper n (image_over p)
     IsProper-image p h = record { positive = h.positive; below = comb_below n p.over _ (λ i. power-below d P top P_below (k * i)) }
 
-    image_form : (p : Fraction) → IsProper n p → rimage (reduce n p) ≡ rimage p
+    pub image_form : (p : Fraction) → IsProper n p → rimage (reduce n p) ≡ rimage p
     image_form p h = reduce-absorb n image_over (λ m x. same (L.scale (pos m) x.over) refl) IsProper-image p h
 
     pub rimage-sum : (p q : Fraction) → IsProper n p → IsProper n q → rimage (rsum n p q) ≡ rsum n (rimage p) (rimage q)

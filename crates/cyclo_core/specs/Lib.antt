@@ -4,6 +4,8 @@ pub mod CycloLaws
 pub mod Fraction
 pub mod FractionRing
 pub mod Given
+pub mod Image
+pub mod ImageLaws
 pub mod Layers
 pub mod Ratio
 pub mod RingAt

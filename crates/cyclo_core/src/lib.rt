@@ -11,12 +11,17 @@
 //!   (`specs/Convolution.antt`).
 //! - *given number*: the number of any numerators over any denominator, or why there is none
 //!   (`specs/Given.antt`).
+//! - *exponent*: a number k from 1 to N without a divisor in common with N (`specs/Image.antt`).
+//! - *image*: what putting z^k for z makes of a number, for an exponent k: the Galois action
+//!   (`specs/Image.antt`), and its laws (`specs/ImageLaws.antt`).
 //! - *layers*: the same ring as fractions of combinations of powers, where its laws are proved
 //!   (`specs/Layers.antt`, `specs/CycloLaws.antt`, `specs/RingAt.antt`).
 #![tactic(auto)]
 
 mod cancel;
 mod fault;
+mod image;
+pub mod laws;
 mod number;
 mod small;
 mod sums;

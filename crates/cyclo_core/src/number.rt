@@ -5,10 +5,12 @@ ghost use Rattle.poly_core.specs.Rho.{is_accepted, degree, order};
 ghost use Rattle.poly_core.specs.Table.{at};
 ghost use Rattle.cyclo_core.specs.Content.{content};
 ghost use Rattle.cyclo_core.specs.Given.{are_small, number_of};
+ghost use Rattle.cyclo_core.specs.Image.{is_exponent, image_of, image_fits};
 ghost use Rattle.cyclo_core.specs.Ratio.{reduced, is_held, ring_at};
 
 use crate::cancel::{content, divided, gcd, quotients};
 use crate::fault::NumberFault;
+use crate::image::image_numerators;
 use crate::sums::{conjugate, negated, product, sum};
 use poly_core::{PowerTable, RootRefused, powers};
 use ring_laws::{Overflow, StarRing};
@@ -157,6 +159,35 @@ impl Cyclo {
         } else {
             Ok(cancelled(nums, den.unsigned_abs()))
         }
+    }
+
+    /// Whether k is from 1 to N and has no divisor above 1 in common with N, so that z^k has the order N too.
+    pub fn is_exponent(&self, k: u8) -> bool
+        ensures { result ≡ is_exponent self.now k }
+    {
+        let root = self.powers.root();
+        if k == 0 || k > root {
+            return false;
+        }
+        gcd(u128::from(k), u128::from(root)) == 1
+    }
+
+    /// The image of a number under the map of rings that sends z to z^k, for an exponent k ([`Cyclo::is_exponent`]).
+    ///
+    /// Its numerator at j is the sum over a of that of x at a times the coefficient of z^j in z^(a k); it is too
+    /// large exactly where the same sum of magnitudes is above 2^127 - 1, for some j below phi(N). The denominator
+    /// is that of x, before what all have in common is cancelled. Takes no memory.
+    pub fn image(&self, k: u8, x: &Number) -> Result<Number, Overflow>
+        requires exponent { IsTrue (is_exponent self.now k) }
+        requires member { IsTrue ((ring_at self.now).member x.now) }
+        ensures fits { IsTrue (image_fits self.now k x.now) ↔ IsOk result }
+        ensures value { IfOk result (λ z. z ≡ image_of self.now k x.now) }
+        ensures member { IfOk result (λ z. IsTrue ((ring_at self.now).member z)) }
+        ensures holds { IfOk result (λ z. IsTrue (is_held z)) }
+        ensures known { IsTrue (is_held x.now) }
+    {
+        let numerators = image_numerators(&self.powers, k, &x.numerators)?;
+        Ok(cancelled(&numerators, x.denominator))
     }
 }
 

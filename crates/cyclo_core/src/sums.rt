@@ -32,7 +32,7 @@ pub fn order_of(powers: &PowerTable) -> usize
 }
 
 /// The coefficient of z^j in z^k, for any k.
-fn power_at(powers: &PowerTable, k: usize, j: usize) -> i128
+pub fn power_at(powers: &PowerTable, k: usize, j: usize) -> i128
     requires { j < degree powers.now }
     ensures { result ≡ rho powers.now (k % order powers.now) j }
 {
