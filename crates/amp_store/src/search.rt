@@ -43,6 +43,22 @@ fn find_from_end<R: StarRing>(entries: &[Entry<R>], key: &Key) -> Result<usize, 
     find(entries, key)
 }
 
+/// The place of a key among entries in order, or where it would go, with no search where it stands at this place.
+pub(crate) fn find_near<R: StarRing>(
+    entries: &[Entry<R>],
+    key: &Key,
+    place: usize,
+) -> Result<usize, usize>
+    requires { IsStrictlySortedBy key_cmp (keys_of (amplitudes_in entries.now)) }
+    ensures found { IfOk result (IsAt (amplitudes_in entries.now) key.now.items) }
+    ensures absent { IfErr result (IsGap (amplitudes_in entries.now) key.now.items) }
+{
+    if place < entries.len() && entries[place].key == *key {
+        return Ok(place);
+    }
+    find(entries, key)
+}
+
 /// The place of a key among entries in order, or where it would go.
 pub(crate) fn find<R: StarRing>(entries: &[Entry<R>], key: &Key) -> Result<usize, usize>
     requires { IsStrictlySortedBy key_cmp (keys_of (amplitudes_in entries.now)) }

@@ -8,7 +8,7 @@ ghost use Rattle.std.specs.BTreeMap.{insert_entry};
 ghost use Rattle.amp_store.specs.Amplitudes.{AreAmplitudes, amplitude_at, key_cmp};
 
 use crate::entry::{Entry, Key, with_label};
-use crate::search::{find, place};
+use crate::search::{find_near, place};
 use ring_laws::StarRing;
 use std::alloc::{AllocError, Global};
 use std::marker::Model;
@@ -77,7 +77,16 @@ impl<R: StarRing> Amps<R> {
         ensures value { option_copied result ≡ amplitude_at self.now key.now.items }
         ensures nonzero { (v : R.Elem) → amplitude_at self.now key.now.items ≡ Some v → R.held.is_zero v ≡ false }
     {
-        match find(&self.entries, key) {
+        self.get_near(key, 0)
+    }
+
+    /// The number of a key, if it has one, with no search where the key stands at this place. The place counts from zero in
+    /// the order of keys; it may be any number, and the answer is the same.
+    pub fn get_near(&self, key: &Key, place: usize) -> Option<&R::Elem>
+        ensures value { option_copied result ≡ amplitude_at self.now key.now.items }
+        ensures nonzero { (v : R.Elem) → amplitude_at self.now key.now.items ≡ Some v → R.held.is_zero v ≡ false }
+    {
+        match find_near(&self.entries, key, place) {
             Ok(at) => Some(&self.entries[at].value),
             Err(_) => None,
         }

@@ -48,6 +48,11 @@ pub long_before : (rotation : Rotation) (x : List ℕ) (t : ℕ) → length (bef
 long_before rotation x t =
     length-set (set x (rotation.parent - 1) (get_or x (rotation.node - 1) 0)) (rotation.node - 1) t ∙ length-set x (rotation.parent - 1) (get_or x (rotation.node - 1) 0)
 
+pub label_before : (n : ℕ) (rotation : Rotation) (x : List ℕ) (t : ℕ) → IsRotation n rotation → n ≡ length x + 1 → get_or (before rotation x t) (rotation.node - 1) 0 ≡ t
+label_before n rotation x t is long =
+    get_or-set_same (set x (rotation.parent - 1) (get_or x (rotation.node - 1) 0)) (rotation.node - 1) t 0
+    (omega (arith, is.node.low, is.node.high, length-set x (rotation.parent - 1) (get_or x (rotation.node - 1) 0)))
+
 -- a new key has a label below the count for each gap
 pub after_key : (count n : ℕ) (rotation : Rotation) (x : List ℕ) (u : ℕ) → IsRotation n rotation → IsKey count n x → u < count → IsKey count n (after rotation x u)
 after_key count n rotation x u is key low =

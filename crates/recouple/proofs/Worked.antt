@@ -1,6 +1,6 @@
 -- Worked values: on symbols with numbers of their own at some indices and one elsewhere, and on the Fibonacci category.
 -- The expected values were worked out by hand from the listed numbers.
-use Rattle.std.specs.Prelude.{◌≡◌, ◌+ℤ◌, true, [], ◌∷◌, Some, None, nat_abs, nat_lt, pos, negsuc, refl}
+use Rattle.std.specs.Prelude.{◌≡◌, ◌+ℤ◌, ℕ, List, true, [], ◌∷◌, Some, None, nat_abs, nat_lt, pos, negsuc, refl}
 use Rattle.ring_laws.specs.Ring.{Ring}
 use Rattle.symbol_table.proofs.Fib.{Whole5, conjugate5, fib, held5, num, numbered, plus5, ring5, times5, whole}
 use Rattle.symbol_table.specs.Symbols.{Symbols, symbols_of}
@@ -8,7 +8,7 @@ use Rattle.tree_shapes.specs.Labelled.{Labelled, Strand, Joined, leaves, node_la
 use Rattle.tree_shapes.specs.Outlines.{Outline, Tip, Branch, outline_of, with_labels}
 use Rattle.recouple.specs.Rotations.{after, before, rotation_of}
 use Rattle.recouple.specs.States.{State, comb, raise_of, stated_raise}
-use Rattle.recouple.specs.Targets.{row_of, targets_of}
+use Rattle.recouple.specs.Targets.{keys_of, row_of, targets_of}
 use Rattle.recouple.specs.declared.rotation.Rotation.{Rotation}
 use Rattle.recouple.specs.declared.rotation.Spot.TheVariants.{AtStrand, AtGap}
 
@@ -40,12 +40,16 @@ deeper = refl
 keys : ((before from_the_left (3 ∷ 4 ∷ []) 9 ≡ 9 ∷ 3 ∷ []) × (after from_the_left (9 ∷ 3 ∷ []) 4 ≡ 3 ∷ 4 ∷ []))
 keys = (refl, refl)
 
-targets : ((row_of from_the_left 2 (9 ∷ 3 ∷ []) ≡ (3 ∷ 0 ∷ []) ∷ (3 ∷ 1 ∷ []) ∷ []) × (targets_of {E = Whole5} from_the_left 1 (((0 ∷ 1 ∷ []), whole 1) ∷ ((1 ∷ 0 ∷ []), whole 1) ∷ []) ≡ (1 ∷ 0 ∷ []) ∷ (0 ∷ 0 ∷ []) ∷ []))
+-- of three Fibonacci strands: from total charge t to both labels, from total charge 1 to t alone
+abbrev one_each : List (List ℕ × Whole5)
+one_each = ((0 ∷ 1 ∷ []), whole 1) ∷ ((1 ∷ 0 ∷ []), whole 1) ∷ []
+
+targets : ((row_of fib (1 ∷ 1 ∷ 1 ∷ []) from_the_left (1 ∷ 0 ∷ []) ≡ (0 ∷ 1 ∷ []) ∷ []) × (targets_of fib (1 ∷ 1 ∷ 1 ∷ []) from_the_left one_each ≡ (1 ∷ 0 ∷ []) ∷ (1 ∷ 1 ∷ []) ∷ (0 ∷ 1 ∷ []) ∷ []))
 targets = (refl, refl)
 
--- two keys that differ at the node's label alone have one row
-one_row : targets_of {E = Whole5} from_the_left 2 (((0 ∷ 1 ∷ []), whole 1) ∷ ((1 ∷ 1 ∷ []), whole 1) ∷ []) ≡ (1 ∷ 0 ∷ []) ∷ (1 ∷ 1 ∷ []) ∷ []
-one_row = refl
+-- a source that is the second of these amplitudes
+of_the_second : keys_of from_the_left one_each (record { order = 0; place = 1; from = 1; to = 1 } ∷ []) ≡ (0 ∷ 1 ∷ []) ∷ []
+of_the_second = refl
 
 -- three keys that differ at the node's label
 abbrev on_left : State Whole5

@@ -47,12 +47,29 @@ pub(crate) fn after(key: &Key, rotation: &Rotation, label: u8) -> Key
     moved(key, rotation.parent, rotation.node, label)
 }
 
-/// The key with another label at the node.
-pub(crate) fn with_label(key: &Key, node: u8, label: u8) -> Key
-    requires { IsPlace (length key.now.items) node }
-    ensures { result.items ≡ slice_set key.now.items (node - 1) label }
+/// Gives a key another label at a gap.
+pub(crate) fn set_label(key: &mut Key, gap: u8, label: u8)
+    requires { IsPlace (length key.old.items) gap }
+    ensures { key.new.items ≡ slice_set key.old.items (gap - 1) label }
 {
-    let mut changed = copy_of(key);
-    changed.as_mut_slice()[node as usize - 1] = label;
-    changed
+    key.as_mut_slice()[gap as usize - 1] = label;
+}
+
+/// The labels of a key as the digits of a number, by which keys are sorted. Nothing rests on it but the time that a raise
+/// takes.
+pub(crate) fn order_of(key: &Key) -> u128 {
+    let mut order = 0u128;
+    for label in key.as_slice() {
+        order = order << 4 | u128::from(*label);
+    }
+    order
+}
+
+/// What a label more at a gap adds to that number, for a key over so many strands.
+pub(crate) fn order_step(strands: usize, gap: u8) -> u128 {
+    let mut step = 1u128;
+    for _ in gap as usize + 1..strands {
+        step = step.wrapping_mul(16);
+    }
+    step
 }

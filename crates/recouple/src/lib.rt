@@ -12,8 +12,8 @@ mod begin;
 mod keys;
 mod raising;
 mod rotation;
+mod sources;
 mod state;
-mod targets;
 mod terms;
 
 pub use begin::start;

@@ -6,12 +6,12 @@ ghost use Rattle.symbol_table.specs.Category.{symbols};
 ghost use Rattle.amp_store.specs.Amplitudes.{amplitude_at, amplitude_of, AreAmplitudes};
 ghost use Rattle.recouple.specs.Rotations.{IsKey, IsRotation};
 ghost use Rattle.recouple.specs.Raises.{AreOver, raised, raised_at as spec_raised_at};
-ghost use Rattle.recouple.specs.Targets.{labels_in};
+ghost use Rattle.recouple.specs.Targets.{keys_of};
 ghost use Rattle.amp_store.specs.Gathered.{among, gathered};
 
 use crate::keys::copy_of;
 use crate::rotation::Rotation;
-use crate::targets::new_keys;
+use crate::sources::{Source, new_key, sources_of};
 use crate::terms::raised_at;
 use amp_store::{Amps, Key};
 use ring_laws::{StarRing, is_zero};
@@ -36,31 +36,37 @@ fn put_unless_zero<R: StarRing>(
     amps.put(copy_of(key), value)
 }
 
-/// The amplitudes of these new keys, evaluated in their order.
+/// The amplitudes of the new keys of these sources, evaluated in their order. Sources of one key stand together.
 fn raise_keys<R: StarRing>(
     category: &Category<R>,
     strands: &[u8],
     rotation: &Rotation,
     amps: &Amps<R>,
-    keys: &[Key],
+    sources: &[Source],
 ) -> Result<Amps<R>, StepFault>
     requires rotation { IsRotation (length strands.now) rotation.now }
     requires strands { All (λ s. s < category.now.rules.count) strands.now }
     requires amps { AreOver (R.ring category.now.ring) category.now.rules.count (length strands.now) amps.now }
-    requires keys { (x : List ℕ) → among x (labels_in keys.now) ≡ true → IsKey category.now.rules.count (length strands.now) x }
+    requires places { All (λ s. s.place < length amps.now) sources.now }
+    requires keys { (x : List ℕ) → among x (keys_of rotation.now amps.now sources.now) ≡ true → IsKey category.now.rules.count (length strands.now) x }
     ensures entries { let c = symbols R.StarRing category.now in
-        IfOk result (λ new. (x : List ℕ) → amplitude_at new x ≡ gathered c.held (raised c strands.now rotation.now (amplitude_of c.ring amps.now)) (labels_in keys.now) x) }
+        IfOk result (λ new. (x : List ℕ) → amplitude_at new x ≡ gathered c.held (raised c strands.now rotation.now (amplitude_of c.ring amps.now)) (keys_of rotation.now amps.now sources.now) x) }
     ensures fits { let c = symbols R.StarRing category.now in
-        IfOk result (λ _. (x : List ℕ) → among x (labels_in keys.now) ≡ true
+        IfOk result (λ _. (x : List ℕ) → among x (keys_of rotation.now amps.now sources.now) ≡ true
         → is_some (spec_raised_at c strands.now rotation.now (amplitude_of c.ring amps.now) x) ≡ true) }
     ensures too_large { let c = symbols R.StarRing category.now in
         IsErrOf result StepFault.TooLarge → (x : List ℕ) × IsKey c.count (length strands.now) x
         × (spec_raised_at c strands.now rotation.now (amplitude_of c.ring amps.now) x ≡ None) }
 {
     let mut new = amps.empty();
-    for key in keys {
-        let value = raised_at(category, strands, rotation, amps, key)?;
-        put_unless_zero(category.ring(), &mut new, key, value)?;
+    let mut last = Key::new();
+    for i in 0..sources.len() {
+        let key = new_key(amps, rotation, &sources[i]);
+        if key != last {
+            let value = raised_at(category, strands, rotation, amps, &key, &sources[i..])?;
+            put_unless_zero(category.ring(), &mut new, &key, value)?;
+            last = key;
+        }
     }
     Ok(new)
 }
@@ -89,8 +95,8 @@ pub(crate) fn raise_amps<R: StarRing>(
         × (spec_raised_at c strands.now rotation.now (amplitude_of c.ring amps.now) x ≡ None) }
 {
     amps.in_order();
-    let keys = new_keys(category.rules().count(), rotation, amps)?;
-    match raise_keys(category, strands, rotation, amps, keys.as_slice()) {
+    let sources = sources_of(category, strands, rotation, amps)?;
+    match raise_keys(category, strands, rotation, amps, sources.as_slice()) {
         Ok(new) => {
             new.in_order();
             Ok(new)

@@ -11,6 +11,7 @@ ghost use Rattle.recouple.specs.Raises.{AreOver, factor as spec_factor, has_fact
 
 use crate::keys::before;
 use crate::rotation::{Rotation, label_at};
+use crate::sources::{Source, place_near};
 use amp_store::{Amps, Key};
 use ring_laws::{Overflow, StarRing, add_product};
 use symbol_table::{Category, FIndex};
@@ -53,8 +54,25 @@ fn index_of(strands: &[u8], rotation: &Rotation, key: &Key, t: u8) -> FIndex
     }
 }
 
+/// Whether the factor from the label t at the node is admissible.
+pub(crate) fn is_source<R: StarRing>(
+    category: &Category<R>,
+    strands: &[u8],
+    rotation: &Rotation,
+    key: &Key,
+    t: u8,
+) -> bool
+    requires rotation { IsRotation (length strands.now) rotation.now }
+    requires strands { All (λ s. s < category.now.rules.count) strands.now }
+    requires key { IsKey category.now.rules.count (length strands.now) key.now.items }
+    requires label { t < category.now.rules.count }
+    ensures { result ≡ has_factor (symbols R.StarRing category.now) strands.now rotation.now key.now.items t }
+{
+    index_of(strands, rotation, key, t).is_admissible(category.rules())
+}
+
 /// The term of the label t in the amplitude of a new key, added to a sum where the old amplitude isn't zero and the
-/// factor is admissible.
+/// factor is admissible. The old amplitude is looked for at a place first.
 fn raise_term<R: StarRing>(
     category: &Category<R>,
     strands: &[u8],
@@ -62,6 +80,7 @@ fn raise_term<R: StarRing>(
     amps: &Amps<R>,
     key: &Key,
     t: u8,
+    place: usize,
     sum: R::Elem,
 ) -> Result<R::Elem, Overflow>
     requires rotation { IsRotation (length strands.now) rotation.now }
@@ -78,7 +97,7 @@ fn raise_term<R: StarRing>(
     if !at.is_admissible(category.rules()) {
         return Ok(sum);
     }
-    let Some(old) = amps.get(&before(key, rotation, t)) else {
+    let Some(old) = amps.get_near(&before(key, rotation, t), place) else {
         return Ok(sum);
     };
     let factor = factor_at(category, rotation, &at);
@@ -100,7 +119,7 @@ fn factor_at<R: StarRing>(category: &Category<R>, rotation: &Rotation, at: &FInd
     }
 }
 
-/// The amplitude of a new key.
+/// The amplitude of a new key, whose sources stand first.
 #[tactic(auto, using(ring_laws::proofs::StatedLemmas::steps_one, ring_laws::proofs::StatedLemmas::steps_none))]
 pub(crate) fn raised_at<R: StarRing>(
     category: &Category<R>,
@@ -108,6 +127,7 @@ pub(crate) fn raised_at<R: StarRing>(
     rotation: &Rotation,
     amps: &Amps<R>,
     key: &Key,
+    sources: &[Source],
 ) -> Result<R::Elem, Overflow>
     requires rotation { IsRotation (length strands.now) rotation.now }
     requires strands { All (λ s. s < category.now.rules.count) strands.now }
@@ -119,7 +139,8 @@ pub(crate) fn raised_at<R: StarRing>(
 {
     let mut sum = category.ring().zero();
     for t in 0..category.rules().count() {
-        sum = raise_term(category, strands, rotation, amps, key, t, sum)?;
+        let place = place_near(sources, t);
+        sum = raise_term(category, strands, rotation, amps, key, t, place, sum)?;
     }
     Ok(sum)
 }

@@ -1,45 +1,35 @@
 use Rattle.std.proofs.Common.{◌≡◌, List, ℕ, ap, sym, ◌∙◌, length}
-use Rattle.fusion_rules.specs.Fusion.{Fusion}
 use Rattle.symbol_table.specs.Symbols.{Symbols}
 use Rattle.symbol_table.specs.Category.{draft_symbols}
 use Rattle.symbol_table.specs.Draft.{given}
 use Rattle.amp_store.specs.Amplitudes.{amplitude_at, amplitude_of}
 use Rattle.amp_store.specs.Gathered.{among, gathered}
 use Rattle.recouple.specs.Raises.{raised}
-use Rattle.recouple.specs.Targets.{labels_in, targets_of}
+use Rattle.recouple.specs.Targets.{keys_of, targets_of}
 use Rattle.recouple.proofs.EndLemmas.{raised_known, raised_over, fits_all, fuses_low}
-use Rattle.recouple.proofs.TargetLemmas.{gathered_same, listed, place_of, targets_over}
+use Rattle.recouple.proofs.SourceLemmas.{gathered_same, targets_over}
 use Rattle.recouple.proofs.raising.raise_amps.Given.{Over}
 use Rattle.recouple.proofs.raising.raise_amps.Goals as goal
 
-pub new_keys-requires-clause-node : goal.new_keys-requires-clause-node
-new_keys-requires-clause-node g c key v there =
-    place_of (length c.args.strands.now) (length key) c.args.rotation.now.node (c.requires.amps.keys key v there).long c.requires.rotation.node
-
-pub new_keys-requires-clause-parent : goal.new_keys-requires-clause-parent
-new_keys-requires-clause-parent g c key v there =
-    place_of (length c.args.strands.now) (length key) c.args.rotation.now.parent (c.requires.amps.keys key v there).long c.requires.rotation.parent
-
 pub raise_keys-requires-clause-keys : goal.raise_keys-requires-clause-keys
 raise_keys-requires-clause-keys g c x h =
-    let count = c.args.category.now.rules.count in
-    let counted = c.count.ensures.count ∙ ap (λ (q : Fusion). q.count) c.rules.ensures in
-    targets_over (g.R.StarRing.ring c.args.category.now.ring) count (length c.args.strands.now) c.args.rotation.now c.args.amps.now c.requires.rotation c.requires.amps x
-    (sym (listed c.args.rotation.now c.args.amps.now c.in_ok-keys.keys.items c.as_slice.result.now c.count.result count c.as_slice.ensures.value counted c.in_ok-keys.ensures x) ∙ h)
+    let s = draft_symbols (g.R.StarRing.ring c.args.category.now.ring) g.R.StarRing.held c.args.category.now in
+    targets_over s c.args.strands.now c.args.rotation.now (length c.args.strands.now) c.args.amps.now c.requires.rotation c.requires.amps x
+    (sym (c.in_ok-sources.ensures.keys x) ∙ (ap (λ ks. among x (keys_of c.args.rotation.now c.args.amps.now ks)) (sym c.as_slice.ensures.value) ∙ h))
 
-module _ (g : Over) (c : goal.After-drop-keys g) where
+module _ (g : Over) (c : goal.After-drop-sources g) where
   abbrev s : Symbols g.row.R-Elem.Denot
   s = draft_symbols (g.R.StarRing.ring c.args.category.now.ring) g.R.StarRing.held c.args.category.now
 
   -- the keys are those at which an amplitude may be
-  are : (x : List ℕ) → among x (labels_in c.as_slice.result.now) ≡ among x (targets_of c.args.rotation.now c.args.category.now.rules.count c.args.amps.now)
-  are = listed c.args.rotation.now c.args.amps.now c.in_ok-keys.keys.items c.as_slice.result.now c.count.result c.args.category.now.rules.count c.as_slice.ensures.value
-      (c.count.ensures.count ∙ ap (λ (q : Fusion). q.count) c.rules.ensures) c.in_ok-keys.ensures
+  are : (x : List ℕ) → among x (keys_of c.args.rotation.now c.args.amps.now c.as_slice.result.now) ≡ among x (targets_of s c.args.strands.now c.args.rotation.now c.args.amps.now)
+  are x = ap (λ ks. among x (keys_of c.args.rotation.now c.args.amps.now ks)) c.as_slice.ensures.value ∙ c.in_ok-sources.ensures.keys x
 
-  known : (x : List ℕ) → amplitude_at c.in-Ok.new x ≡ gathered g.R.StarRing.held (raised s c.args.strands.now c.args.rotation.now (amplitude_of s.ring c.args.amps.now)) (targets_of c.args.rotation.now s.count c.args.amps.now) x
+  known : (x : List ℕ) → amplitude_at c.in-Ok.new x ≡ gathered g.R.StarRing.held (raised s c.args.strands.now c.args.rotation.now (amplitude_of s.ring c.args.amps.now)) (targets_of s c.args.strands.now c.args.rotation.now c.args.amps.now) x
   known x =
       c.in-Ok.ensures.entries x
-      ∙ gathered_same g.R.StarRing.held (raised s c.args.strands.now c.args.rotation.now (amplitude_of s.ring c.args.amps.now)) (labels_in c.as_slice.result.now) (targets_of c.args.rotation.now s.count c.args.amps.now) x (are x)
+      ∙ gathered_same g.R.StarRing.held (raised s c.args.strands.now c.args.rotation.now (amplitude_of s.ring c.args.amps.now)) (keys_of c.args.rotation.now c.args.amps.now c.as_slice.result.now)
+      (targets_of s c.args.strands.now c.args.rotation.now c.args.amps.now) x (are x)
 
 pub returns-in-Ok-clause-amplitudes : goal.returns-in-Ok-clause-amplitudes
 returns-in-Ok-clause-amplitudes g c =
@@ -51,7 +41,7 @@ returns-in-Ok-clause-over g c =
     let base = c.args.category.now.ring in
     raised_over (g.met.R.StarRing.laws base) (given c.args.category.now) (λ a b u. fuses_low c.args.category.now.rules a b u) c.args.strands.now c.args.rotation.now c.requires.rotation
     c.args.amps.now c.requires.amps c.in-Ok.new (known g c)
-    (targets_over (g.R.StarRing.ring base) c.args.category.now.rules.count (length c.args.strands.now) c.args.rotation.now c.args.amps.now c.requires.rotation c.requires.amps)
+    (targets_over (s g c) c.args.strands.now c.args.rotation.now (length c.args.strands.now) c.args.amps.now c.requires.rotation c.requires.amps)
 
 pub returns-in-Ok-clause-fits : goal.returns-in-Ok-clause-fits
 returns-in-Ok-clause-fits g c =

@@ -3,7 +3,7 @@ use Rattle.std.specs.Prelude.{Some}
 use Rattle.amp_store.specs.Amplitudes.{amplitude_at}
 use Rattle.amp_store.proofs.EditLemmas.{nonzero_at}
 use Rattle.amp_store.proofs.SearchLemmas.{at_below, found_value, found_nothing}
-use Rattle.amp_store.proofs.store.Amps.get.Goals as goal
+use Rattle.amp_store.proofs.store.Amps.get_near.Goals as goal
 
 pub index-requires : goal.index-requires
 index-requires g c =
