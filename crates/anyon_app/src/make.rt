@@ -23,8 +23,8 @@ use crate::programs::{outcomes, program, schedule};
 use crate::refusals::number_line;
 use crate::stop::Stop;
 use crate::texts::{Kind, within_limit};
-use cyclo_core::Cyclo;
 use category_maker::{Made, MakeFault, make as make_texts};
+use cyclo_core::Cyclo;
 use line_text::plain_number;
 use outcome_report::{Counts, summary};
 use outcome_rows::{Rows, text_commands};
@@ -127,7 +127,12 @@ fn made_summary(
 }
 
 // The lines of a summary.
-fn summary_text(alloc: Global, number: u32, plan: &Plan, rows: &Rows<Cyclo>) -> Result<Vec<u8>, AllocError>
+fn summary_text(
+    alloc: Global,
+    number: u32,
+    plan: &Plan,
+    rows: &Rows<Cyclo>,
+) -> Result<Vec<u8>, AllocError>
     requires { length (commands_in (program_of plan.now).sites) ≤ COMMAND_LIMIT }
     ensures { IfOk result (λ text. text.items ≡ summary_of number (length (commands_in (program_of plan.now).sites)) (measurements (commands_in (program_of plan.now).sites)) (outcomes_in rows.now)) }
 {
