@@ -177,7 +177,7 @@ module _ {E : Type 0} (ring : Ring E) (held : Held E) (laws : RingLaws ring held
   -- a term of a sum that is added, or isn't there
   added : (goes : Bool) (s x : E) → IsTrue (ring.member s) → Evaluates (if goes then sum_at ring s x else Some s) (ring.sum s (if goes then x else ring.zero))
   added true s x is = sum_is ring s x
-  added false s x is v e = given_is s v e ∙ sym (laws.sum-zero s is)
+  added false s x is = λ v e. given_is s v e ∙ sym (laws.sum-zero s is)
 
   loop_sum_is : (a b : ℕ) → Evaluates (loop_sum_right c a b) (total ring g.count (λ k. if g.fuse a b k then c.loop_value k else ring.zero))
   loop_sum_is a b =

@@ -117,6 +117,12 @@ loops_too_large = refl
 pub loops_differ : loop_sum numbered 1 2 ≡ Some Fails
 loops_differ = refl
 
--- all symbols 1: the loop value of 1 is 1
-pub loop_f_holds : loop_f (symbols_of turned_ring whole_held (record numbers { set_f = λ a b c d e f. Some (pos 1); set_w = λ a b c. Some (pos 1); set_v = λ a b c. Some (pos 1); set_loop = λ a. Some (neg_ℤ (pos 1)) })) 1 ≡ Some Fails
+-- F, w and v are 1 and d_1 is -1: H is 1, or -1 where a conjugate is the negative
+abbrev plain : Given ℤ
+plain = record numbers { set_f = λ a b c d e f. Some (pos 1); set_w = λ a b c. Some (pos 1); set_v = λ a b c. Some (pos 1); set_loop = λ a. Some (neg_ℤ (pos 1)) }
+
+pub loop_f_holds : loop_f (symbols_of whole_ring whole_held plain) 1 ≡ None
 loop_f_holds = refl
+
+pub loop_f_fails : loop_f (symbols_of turned_ring whole_held plain) 1 ≡ Some Fails
+loop_f_fails = refl
