@@ -13,7 +13,7 @@ use Rattle.category_text.specs.Reading.{Fault, category_of, front_of, head_of, l
 
 -- one triple beside those of the unit
 one_triple : Result NamedSymbols Fault
-one_triple = Ok (record { root = 5; names = codes "1" ∷ codes "t" ∷ []; given = with_fusion (only_units 2) 1 1 0 })
+one_triple = Ok (record { root = 5; names = codes "1" ∷ codes "t" ∷ []; given = with_fusion (only_units 1 2) 1 1 0 })
 
 read_well : category_of (codes "category 1\n root  5\nlabels 1 t\n\n# c\nfuse t t 1") ≡ one_triple
 unfolding category_of head_of front_of line_of fuse_of symbol_of is_accepted totient gcd one_triple

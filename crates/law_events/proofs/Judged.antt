@@ -11,7 +11,7 @@ use Rattle.symbol_table.specs.Laws.{Equation, Same, Free, at1, at2, at3, at6, at
 use Rattle.symbol_table.specs.declared.law.Law.{Law}
 use Rattle.symbol_table.specs.declared.law.Kind.{Kind}
 use Rattle.symbol_table.specs.declared.law.Law.TheVariants.{UnitF, UnitR, UnitW, RealW, InverseW, NormR, DeriveH, DeriveS, InverseF, InverseH, Rigid, Pentagon, HexagonOne, HexagonTwo, UnitTwist, Twist, UnitLoop, LoopSum, LoopF}
-use Rattle.law_events.specs.Sides.{judged, evaluated, rigid, real_w, inverse_w, unit_f, unit_vertex, norm_r, norm_r_left, inverse_f, inverse_h, inverse_f_left, inverse_f_step, inverse_h_left, inverse_h_step, pentagon, pentagon_left, pentagon_right, pentagon_step, hexagon, hexagon_left, hexagon_right, hexagon_step, unit_mark, product4, twist, twist_left, loop_sum, loop_sum_right, loop_sum_step, loop_f, loop_f_left}
+use Rattle.law_events.specs.Sides.{judged, evaluated, rigid, real_w, inverse_w, unit_f, unit_vertex, norm_r, norm_r_left, inverse_f, inverse_h, inverse_f_left, inverse_f_step, inverse_h_left, inverse_h_step, pentagon, pentagon_left, pentagon_right, pentagon_step, hexagon, hexagon_left, hexagon_right, hexagon_step, unit_mark, product4_at, twist, twist_left, loop_sum, loop_sum_right, loop_sum_step, loop_f, loop_f_left}
 use Rattle.law_events.proofs.Right.{IsRight, JudgesRight, same_right, where_right, free_right, not_zero_right}
 use Rattle.law_events.proofs.Values.{Evaluates, given_is, then_is, product_is, sum_is, conjugate_is, product3_is, add_product_is, add_product3_is, step_is, steps_are}
 use Rattle.law_events.proofs.Zeros.{one_of_three, f_zero_second, f_zero_third, f_zero_fourth, left_gone, right_gone, first_gone, second_gone, third_gone}
@@ -164,7 +164,7 @@ module _ {E : Type 0} (ring : Ring E) (held : Held E) (laws : RingLaws ring held
       where_right ring held laws Are (a == 0) (judged held (Some (mark a)) (Some ring.one)) (Same (mark a) ring.one)
       (same_right ring held laws Are (Some (mark a)) (Some ring.one) (mark a) ring.one (given_is (mark a)) (given_is ring.one))
 
-  product4_is : (x y z u : E) → Evaluates (product4 c x y z u) (times (times (times x y) z) u)
+  product4_is : (x y z u : E) → Evaluates (product4_at ring x y z u) (times (times (times x y) z) u)
   product4_is x y z u =
       then_is (product3_at ring x y z) (λ three. product_at ring three u) (times (times x y) z) (times (times (times x y) z) u) (product3_is ring x y z)
       (product_is ring (times (times x y) z) u)

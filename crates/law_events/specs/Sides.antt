@@ -4,7 +4,7 @@
 -- admissible; a conjugate is formed where it stands; the left side comes before the right one.
 use Rattle.std.specs.Prelude.{ℕ, ◌&&◌, ◌||◌, ◌==◌, List, [], ◌∷◌, Option, Some, None, if◌then◌else◌}
 use Rattle.std.specs.Option.{option_or}
-use Rattle.ring_laws.specs.Ring.{Held}
+use Rattle.ring_laws.specs.Ring.{Ring, Held}
 use Rattle.ring_laws.specs.Stated.{◌>>=◌, product_at, product3_at, sum_at, conjugate_at, add_product_at, add_product3_at, steps}
 use Rattle.fusion_rules.specs.Check.{dual_of}
 use Rattle.symbol_table.specs.Symbols.{Symbols}
@@ -27,6 +27,10 @@ judged held (Some x) (Some y) = if held.equal x y then None else Some Fails
 abbrev pub evaluated : {E : Type 0} → Option E → Option Kind
 evaluated None = Some Overflow
 evaluated (Some x) = None
+
+-- the product of four, from the left
+abbrev pub product4_at : {E : Type 0} → Ring E → E → E → E → E → Option E
+product4_at ring x y z u = product3_at ring x y z >>= λ three. product_at ring three u
 
 module _ {E : Type 0} (c : Symbols E) where
   -- F at an index with a unit is 1
@@ -118,13 +122,9 @@ module _ {E : Type 0} (c : Symbols E) where
   abbrev pub unit_mark : (ℕ → E) → ℕ → Option Kind
   unit_mark mark a = if a == 0 then judged c.held (Some (mark a)) (Some c.ring.one) else None
 
-  -- the product of four, from the left
-  abbrev pub product4 : E → E → E → E → Option E
-  product4 x y z u = product3_at c.ring x y z >>= λ three. product_at c.ring three u
-
   -- R(a,b,c) R(b,a,c) theta_a theta_b
   abbrev pub twist_left : ℕ → ℕ → ℕ → Option E
-  twist_left a b k = product4 (c.r a b k) (c.r b a k) (c.twist a) (c.twist b)
+  twist_left a b k = product4_at c.ring (c.r a b k) (c.r b a k) (c.twist a) (c.twist b)
 
   abbrev pub twist : ℕ → ℕ → ℕ → Option Kind
   twist a b k = judged c.held (twist_left a b k) (Some (c.twist k))
@@ -143,7 +143,7 @@ module _ {E : Type 0} (c : Symbols E) where
   abbrev pub loop_f_left : ℕ → Option E
   loop_f_left a =
       let dual = dual_of c.count c.fuse a in
-      product4 (c.loop_value a) (c.loop_value a) (c.f a dual a a 0 0) (c.h a dual a a 0 0)
+      product4_at c.ring (c.loop_value a) (c.loop_value a) (c.f a dual a a 0 0) (c.h a dual a a 0 0)
 
   abbrev pub loop_f : ℕ → Option Kind
   loop_f a = judged c.held (loop_f_left a) (Some c.ring.one)

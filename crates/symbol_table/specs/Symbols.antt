@@ -1,5 +1,5 @@
 -- The symbols of a category at all labels.
-use Rattle.std.specs.Prelude.{ℕ, Bool, IsTrue, Option, unwrap_or, ◌&&◌, if◌then◌else◌}
+use Rattle.std.specs.Prelude.{ℕ, nat_lt, Bool, IsTrue, Option, unwrap_or, ◌&&◌, if◌then◌else◌}
 use Rattle.ring_laws.specs.Ring.{Ring, Held}
 
 -- What a draft gives: the version of its laws, how many labels there are, which triples fuse, and the values that
@@ -44,9 +44,9 @@ f_of ring g a b c d e f =
 abbrev pub vertex_of : {E : Type 0} → Ring E → Given E → (ℕ → ℕ → ℕ → Option E) → ℕ → ℕ → ℕ → E
 vertex_of ring g values a b c = if g.fuse a b c then unwrap_or (values a b c) ring.one else ring.zero
 
--- A label without a set twist or loop value has 1.
-abbrev pub mark_of : {E : Type 0} → Ring E → (ℕ → Option E) → ℕ → E
-mark_of ring values a = unwrap_or (values a) ring.one
+-- The same for a twist or a loop value: a label without a set value has 1, and what is no label has 0.
+abbrev pub mark_of : {E : Type 0} → Ring E → Given E → (ℕ → Option E) → ℕ → E
+mark_of ring g values a = if nat_lt a g.count then unwrap_or (values a) ring.one else ring.zero
 
 -- H(a,b,c,d;f,e) = conj(F(a,b,c,d;e,f)) w(b,c,f) w(a,f,d) v(a,b,e) v(e,c,d)
 abbrev pub h_of : {E : Type 0} → Ring E → Given E → ℕ → ℕ → ℕ → ℕ → ℕ → ℕ → E
@@ -80,8 +80,8 @@ symbols_of ring held g = record {
   s = s_of ring g;
   w = vertex_of ring g g.set_w;
   v = vertex_of ring g g.set_v;
-  twist = mark_of ring g.set_twist;
-  loop_value = mark_of ring g.set_loop;
+  twist = mark_of ring g g.set_twist;
+  loop_value = mark_of ring g g.set_loop;
 }
 
 -- every F is of the ring
