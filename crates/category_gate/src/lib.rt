@@ -3,6 +3,8 @@
 //!
 //! Glossary:
 //! - *first fault*: the first fault of the rules, else the first event of the laws (`specs/Gate.antt`).
+//! - *laws behind*: the pentagon and the hexagons, and in version 2 the laws of twists and loop values
+//!   (`specs/Order.antt`, these in `src/marks.rt`).
 //! - *fits*: no item of the stated evaluation of a law is too large (`law_events`, `specs/Verdicts.antt`).
 //! - *sound, complete*: without a first fault the symbols are lawful, and lawful symbols whose items fit have none
 //!   (`specs/Gate.antt`, laws in [`laws`]).
