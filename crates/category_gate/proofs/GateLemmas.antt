@@ -1,12 +1,16 @@
 -- The checks in their order make the gate, and what the first fault says.
-use Rattle.std.proofs.Common.{◌≡◌, ◌++◌, ℕ, Some, None, Option, refl, sym, ◌∙◌}
+use Rattle.std.proofs.Common.{◌≡◌, ◌++◌, ℕ, List, Some, None, Option, Result, Ok, Err, refl, sym, ◌∙◌}
 use Rattle.std.proofs.lemmas.Option.{none-some}
 use Rattle.std.specs.Option.{option_or}
+use Rattle.std.specs.Prelude.{IsOk, OnOk}
+use Rattle.law_events.specs.Verdicts.{AllFit, AllHold}
 use Rattle.ring_laws.specs.Ring.{Ring, Held, RingLaws}
 use Rattle.fusion_rules.specs.Check.{rules_fault}
+use Rattle.fusion_rules.specs.First.{Answers}
 use Rattle.fusion_rules.proofs.PassLemmas.{no_fault_passes, passes_no_fault}
 use Rattle.symbol_table.specs.Symbols.{Given, IsOfRing, Symbols, symbols_of}
-use Rattle.symbol_table.specs.Laws.{laws_of}
+use Rattle.symbol_table.specs.Laws.{laws_of, second_laws}
+use Rattle.symbol_table.specs.declared.law.Law.{Law}
 use Rattle.symbol_table.specs.declared.law.Event.{Event}
 use Rattle.law_events.specs.Sides.{first_in, first_of_all}
 use Rattle.law_events.proofs.Judged.{judges_right}
@@ -19,24 +23,35 @@ use Rattle.category_gate.specs.Faults.{of_weights}
 use Rattle.category_gate.specs.Gate.{IsComplete, IsFirst, IsMemory, IsSound}
 use Rattle.category_gate.specs.declared.GateFault.{GateFault}
 use Rattle.category_gate.specs.declared.GateFault.TheVariants as fault
-use Rattle.category_gate.specs.Order.{shape_laws}
+use Rattle.category_gate.specs.Order.{behind_laws, shape_laws}
 
 -- the two parts are the list
-in_parts : (version : ℕ) → laws_of version ≡ weight_laws ++ shape_laws
+in_parts : (version : ℕ) → laws_of version ≡ weight_laws ++ behind_laws version
 in_parts version = refl
 
 module _ {E : Type 0} (c : Symbols E) where
-  all_is : first_of_all c ≡ option_or (first_in c weight_laws) (first_in c shape_laws)
-  all_is = first_append c weight_laws shape_laws
+  abbrev behind : List Law
+  behind = behind_laws c.version
+
+  all_is : first_of_all c ≡ option_or (first_in c weight_laws) (first_in c behind)
+  all_is = first_append c weight_laws behind
 
   -- a fault of the weight laws, where the rules pass
   pub weights_told : (found : WeightFault) → rules_fault c.count c.fuse ≡ None → IsFault found (first_in c weight_laws) → IsFirst c (of_weights found)
-  weights_told (weights.Law event) rules told = (rules, all_is ∙ before_some (first_in c weight_laws) (first_in c shape_laws) event told)
+  weights_told (weights.Law event) rules told = (rules, all_is ∙ before_some (first_in c weight_laws) (first_in c behind) event told)
   weights_told weights.Memory rules told = rules
 
   -- the laws behind them, where no weight law has an event
-  pub shapes_told : (o : Option Event) → first_in c weight_laws ≡ None → first_in c shape_laws ≡ o → first_of_all c ≡ o
-  shapes_told o before told = all_is ∙ behind_none (first_in c weight_laws) (first_in c shape_laws) o before told
+  pub behind_told : (o : Option Event) → first_in c weight_laws ≡ None → first_in c behind ≡ o → first_of_all c ≡ o
+  behind_told o before told = all_is ∙ behind_none (first_in c weight_laws) (first_in c behind) o before told
+
+  -- an event of the pentagon or of a hexagon, and what is behind where there is none
+  pub shape_event : (event : Event) → first_in c shape_laws ≡ Some event → first_in c behind ≡ Some event
+  shape_event event told = first_append c shape_laws (second_laws c.version) ∙ before_some (first_in c shape_laws) (first_in c (second_laws c.version)) event told
+
+  pub second_told : {A : Type 0} (r : Result A Event) → first_in c shape_laws ≡ None → Answers r (first_in c (second_laws c.version)) → Answers r (first_in c behind)
+  second_told (Ok x) none told = first_append c shape_laws (second_laws c.version) ∙ behind_none (first_in c shape_laws) (first_in c (second_laws c.version)) None none told
+  second_told (Err event) none told = first_append c shape_laws (second_laws c.version) ∙ behind_none (first_in c shape_laws) (first_in c (second_laws c.version)) (Some event) none told
 
 module _ {E : Type 0} (ring : Ring E) (held : Held E) (laws : RingLaws ring held) (g : Given E) where
   abbrev c : Symbols E
@@ -53,3 +68,16 @@ pub memory_alone : {E : Type 0} (c : Symbols E) (found : GateFault) → IsFirst 
 memory_alone c (fault.Rules found) is rules none = none-some found (sym rules ∙ is)
 memory_alone c (fault.Law event) is rules none = none-some event (sym none ∙ is.1)
 memory_alone c fault.Memory is rules none = tt
+
+-- answers of a check of laws, and what they say of them
+module _ {E : Type 0} (ring : Ring E) (held : Held E) (laws : RingLaws ring held) (g : Given E) (list : List Law) where
+  abbrev symbols : Symbols E
+  symbols = symbols_of ring held g
+
+  pub answers_lawful : {A : Type 0} (r : Result A Event) → Answers r (first_in symbols list) → OnOk r (AllHold symbols list)
+  answers_lawful (Ok x) told = all_hold symbols (judges_right ring held laws g) list told
+  answers_lawful (Err event) told = tt
+
+  pub answers_complete : {A : Type 0} (r : Result A Event) → Answers r (first_in symbols list) → IsOfRing symbols → AllHold symbols list → AllFit symbols list → IsOk r
+  answers_complete (Ok x) told are holds fits = refl
+  answers_complete (Err event) told are holds fits = absurd (none-some event (sym (none_where symbols (judges_right ring held laws g) are list holds fits) ∙ told))

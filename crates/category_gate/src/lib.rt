@@ -3,6 +3,8 @@
 //!
 //! Glossary:
 //! - *first fault*: the first fault of the rules, else the first event of the laws (`specs/Gate.antt`).
+//! - *laws behind*: the pentagon and the hexagons, and in version 2 the laws of twists and loop values
+//!   (`specs/Order.antt`, these in `src/marks.rt`).
 //! - *fits*: no item of the stated evaluation of a law is too large (`law_events`, `specs/Verdicts.antt`).
 //! - *sound, complete*: without a first fault the symbols are lawful, and lawful symbols whose items fit have none
 //!   (`specs/Gate.antt`, laws in [`laws`]).
@@ -14,15 +16,19 @@ ghost use Rattle.std.specs.Prelude.{◌≡◌, IfOk};
 ghost use Rattle.symbol_table.specs.Category.{symbols};
 ghost use Rattle.symbol_table.specs.Draft.{given};
 ghost use Rattle.symbol_table.specs.Derived.{HoldsSymbols};
-ghost use Rattle.symbol_table.specs.Laws.{IsLawful};
+ghost use Rattle.symbol_table.specs.Laws.{IsLawful, second_laws};
+ghost use Rattle.fusion_rules.specs.Check.{RulesPass};
 ghost use Rattle.fusion_rules.specs.First.{Answers};
+ghost use Rattle.fusion_rules.specs.Fusion.{fuses};
 ghost use Rattle.law_events.specs.Sides.{first_in};
 ghost use Rattle.law_events.specs.Verdicts.{EveryItemFits};
-ghost use Rattle.category_gate.specs.Order.{shape_laws};
+ghost use Rattle.category_gate.specs.Order.{behind_laws, shape_laws};
 ghost use Rattle.category_gate.specs.Gate.{Admits, IsOkOrMemory};
 
 pub mod laws;
+mod marks;
 
+pub use crate::marks::check_marks;
 use fusion_rules::RulesFault;
 use ring_laws::StarRing;
 use std::alloc::Global;
@@ -82,6 +88,29 @@ fn check_shapes<R: StarRing>(draft: &Draft<R>, derived: &Derived<R>) -> Result<(
     hexagon_check::check(draft, derived)
 }
 
+/// Whether the laws of twists and loop values hold where the version has them: else the first event. Takes no memory.
+fn check_second<R: StarRing>(draft: &Draft<R>, derived: &Derived<R>) -> Result<(), Event>
+    requires pass { RulesPass draft.now.rules.count (fuses draft.now.rules) }
+    requires holds { HoldsSymbols (R.ring draft.now.ring) (given draft.now) derived.now }
+    ensures { Answers result (first_in (symbols R.StarRing draft.now) (second_laws draft.now.version)) }
+{
+    if draft.version() == 2 {
+        check_marks(draft, derived)
+    } else {
+        Ok(())
+    }
+}
+
+/// Whether the laws behind those of single symbols and weights hold: else the first event. Takes no memory.
+fn check_behind<R: StarRing>(draft: &Draft<R>, derived: &Derived<R>) -> Result<(), Event>
+    requires pass { RulesPass draft.now.rules.count (fuses draft.now.rules) }
+    requires holds { HoldsSymbols (R.ring draft.now.ring) (given draft.now) derived.now }
+    ensures { Answers result (first_in (symbols R.StarRing draft.now) (behind_laws draft.now.version)) }
+{
+    check_shapes(draft, derived)?;
+    check_second(draft, derived)
+}
+
 /// H and S of a draft that has no first fault.
 fn check<R: StarRing>(alloc: Global, draft: &Draft<R>) -> Result<Derived<R>, GateFault>
     ensures told { Admits (symbols R.StarRing draft.now) result }
@@ -89,14 +118,14 @@ fn check<R: StarRing>(alloc: Global, draft: &Draft<R>) -> Result<Derived<R>, Gat
 {
     draft.rules().check()?;
     let derived = weight_check::check(alloc, draft)?;
-    check_shapes(draft, &derived)?;
+    check_behind(draft, &derived)?;
     Ok(derived)
 }
 
 /// The category of a draft.
 ///
-/// Answers the first fault of the rules, else the first event of the laws, else the category of this draft, which
-/// is lawful. The draft is given up on a refusal. A lawful draft whose items all fit is admitted, or there was no
+/// Answers the first fault of the rules, else the first event of the laws of the draft's version, else the category of
+/// this draft, which is lawful. The draft is given up on a refusal. A lawful draft whose items all fit is admitted, or there was no
 /// memory for its derived symbols.
 pub fn admit<R: StarRing>(alloc: Global, draft: Draft<R>) -> Result<Category<R>, GateFault>
     ensures told { Admits (symbols R.StarRing draft) result }

@@ -1,4 +1,4 @@
-ghost use Rattle.std.specs.Prelude.{◌≡◌, IfOk};
+ghost use Rattle.std.specs.Prelude.{◌≡◌, ◌<◌, IfOk};
 
 use crate::{GateFault, admit};
 use fusion_rules::{RuleRefused, Rules, RulesFault};
@@ -27,7 +27,9 @@ fn two() -> Result<Rules, RuleRefused>
 }
 
 // F(g,g,g,g;1,1) and R(g,g,1).
-fn drafted(alloc: Global, f: i128, r: i128) -> Result<Draft<Whole>, Fail> {
+fn drafted(alloc: Global, f: i128, r: i128) -> Result<Draft<Whole>, Fail>
+    ensures { IfOk result (λ d. (d.version ≡ 1) × (d.rules.count ≡ 2)) }
+{
     let mut draft = Draft::new(alloc, Whole, two()?);
     draft.set_f(AT, Int::new(f).ok_or("too large")?)?;
     draft.set_r(VIndex { a: 1, b: 1, c: 0 }, Int::new(r).ok_or("too large")?)?;
@@ -67,6 +69,46 @@ fn first_law(rt: HostRuntime) -> Result<(), Fail> {
         (1 << 64, 1, Kind::Overflow, Law::InverseF),
     ] {
         let Err(GateFault::Law(event)) = admit(rt.alloc(), drafted(rt.alloc(), f, r)?) else {
+            return Err(Fail::from("no event"));
+        };
+        assert_eq!(rt; event.kind, kind);
+        assert_eq!(rt; event.law, law);
+    }
+    Ok(())
+}
+
+// The boson of version 2, with a twist and a loop value of a label.
+fn marked(alloc: Global, label: u8, twist: i128, value: i128) -> Result<Draft<Whole>, Fail>
+    requires { label < 2 }
+{
+    let mut draft = drafted(alloc, 1, 1)?;
+    draft.second();
+    draft.set_twist(label, Int::new(twist).ok_or("too large")?)?;
+    draft.set_loop(label, Int::new(value).ok_or("too large")?)?;
+    Ok(draft)
+}
+
+// The square of each mark of g is 1.
+#[test]
+fn second_version_admitted(rt: HostRuntime) -> Result<(), Fail> {
+    for (twist, value) in [(1, 1), (-1, 1), (1, -1)] {
+        let draft = marked(rt.alloc(), 1, twist, value)?;
+        assert!(rt; admit(rt.alloc(), draft).is_ok());
+    }
+    Ok(())
+}
+
+#[test]
+fn first_law_of_marks(rt: HostRuntime) -> Result<(), Fail> {
+    for (label, twist, value, kind, law) in [
+        (0, 2, 1, Kind::Fails, Law::UnitTwist),
+        (1, 2, 2, Kind::Fails, Law::Twist),
+        (1, 1 << 64, 1, Kind::Overflow, Law::Twist),
+        (0, 1, 2, Kind::Fails, Law::UnitLoop),
+        (1, 1, 2, Kind::Fails, Law::LoopSum),
+    ] {
+        let draft = marked(rt.alloc(), label, twist, value)?;
+        let Err(GateFault::Law(event)) = admit(rt.alloc(), draft) else {
             return Err(Fail::from("no event"));
         };
         assert_eq!(rt; event.kind, kind);

@@ -105,7 +105,7 @@ module _ (n : ℕ) (some : 0 < n) (few : n ≤ 12) where
 
   rows : (a : ℕ) → a ≤ n → Begun a 0
   rows zero ha = record {
-    draft = record { version = 1; ring = n; rules = group_rules n; set_f = []; set_r = []; set_w = []; set_v = [] };
+    draft = record { version = 1; ring = n; rules = group_rules n; set_f = []; set_r = []; set_w = []; set_v = []; set_twist = []; set_loop = [] };
     set = none_set n (group_rules n) refl group_triples;
     rules = group_are_rules;
   }

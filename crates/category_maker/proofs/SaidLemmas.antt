@@ -1,7 +1,8 @@
 -- The category of a number can be said, and is read.
 use Rattle.std.proofs.Common.{◌≡◌, ℕ, ◌*◌, ◌%◌, ◌^◌, ◌-◌, ◌<◌, ◌≤◌, Bool, true, false, refl, ap, sym, subst, ◌∙◌, arith, inl, inr, if◌then◌else◌, Some, None}
-use Rattle.std.specs.Prelude.{IsTrue, unsigned_abs, unwrap_or}
+use Rattle.std.specs.Prelude.{IsTrue, nat_lt, unsigned_abs, unwrap_or}
 use Rattle.std.proofs.lemmas.Bool.{cases_lt}
+use Rattle.std.proofs.lemmas.Bool.Decides.{nat_tests}
 use Rattle.poly_core.specs.Combination.{pointwise}
 use Rattle.poly_core.specs.Roots.{IsGood-root_at}
 use Rattle.poly_core.specs.Rho.{is_accepted, rho}
@@ -12,11 +13,13 @@ use Rattle.cyclo_core.specs.CycloLaws.{at-tabulate}
 use Rattle.cyclo_core.specs.Ratio.{Ratio, is_held, reduced, ring_at, tabulate}
 use Rattle.cyclo_core.specs.RingAt.{member_of_reduced, ring_at_laws}
 use Rattle.cyclo_core.proofs.NumberLemmas.{holds, number_over_one, reduced_over_one}
+use Rattle.symbol_table.specs.Draft.{DraftValue, IsVersioned}
 use Rattle.category_text.specs.Again.{IsNumberOf, IsSaid, ReadAgain}
 use Rattle.category_text.specs.Writing.{AllNumbers}
 use Rattle.category_text.proofs.DraftLemmas.{draft_said}
 use Rattle.category_text.proofs.TextLemmas.{all_read_again}
 use Rattle.category_maker.specs.MadeCategory.{group_fuses, label_names, made_category, root_power}
+use Rattle.category_maker.specs.Steps.{IsSetUpTo}
 use Rattle.category_maker.proofs.GroupLemmas.{all_set}
 use Rattle.category_maker.proofs.NamesLemmas.{names_are}
 use Rattle.category_maker.proofs.PowerLemmas.{accepted}
@@ -64,17 +67,26 @@ module _ (n : ℕ) (some : 0 < n) (few : n ≤ 12) where
   all_numbers : AllNumbers (made_category n)
   all_numbers = record {
     f = λ a _ b _ c _ d _ e _ i _ allowed. one_where _ allowed;
-    r = λ a _ b _ c _ allowed. power_where (group_fuses n a b c) ((a * b) % n) allowed;
-    w = λ a _ b _ c _ allowed. one_where _ allowed;
-    v = λ a _ b _ c _ allowed. one_where _ allowed;
+    vertex = record {
+      r = λ a _ b _ c _ allowed. power_where (group_fuses n a b c) ((a * b) % n) allowed;
+      w = λ a _ b _ c _ allowed. one_where _ allowed;
+      v = λ a _ b _ c _ allowed. one_where _ allowed;
+    };
+    mark = record { twist = λ a label. one_where _ (is_label a n label); loop_value = λ a label. one_where _ (is_label a n label) };
   }
+    where
+      is_label : (a m : ℕ) → a < m → nat_lt a m ≡ true
+      is_label a m label = grind (arith, nat_tests)
+
+  versioned : (draft : DraftValue ℕ Ratio) → IsSetUpTo n n 0 draft → IsVersioned draft.version draft.set_twist draft.set_loop
+  versioned draft set = record { known = inl set.version; first = λ _. (set.twist, set.loop_value) }
 
   pub made_said : IsSaid (made_category n)
   made_said =
       let begun = all_set n some few in
       let is = named_is n (label_names n) begun.draft refl begun.set in
       subst IsSaid is
-      (draft_said (label_names n) begun.draft (names_are n few) (length-names n ∙ sym begun.set.count) (subst (λ m. is_accepted m ≡ true) (sym begun.set.ring) (accepted n some few)) begun.rules (subst AllNumbers (sym is) all_numbers))
+      (draft_said (label_names n) begun.draft (names_are n few) (length-names n ∙ sym begun.set.count) (subst (λ m. is_accepted m ≡ true) (sym begun.set.ring) (accepted n some few)) begun.rules (versioned begun.draft begun.set) (subst AllNumbers (sym is) all_numbers))
 
   pub made_again : ReadAgain (made_category n)
   made_again = all_read_again (made_category n) made_said

@@ -3,7 +3,7 @@ use Rattle.std.proofs.Common.{◌≡◌, ◌⊎◌, ℕ, ◌+◌, ◌*◌, ◌%�
 use mathlib.Core.Path.{fun_ext}
 use Rattle.std.specs.Prelude.{nat_lt, not}
 use Rattle.cyclo_core.specs.Ratio.{Ratio}
-use Rattle.symbol_table.specs.Draft.{DraftValue, SetsVertex, given}
+use Rattle.symbol_table.specs.Draft.{DraftValue, SetsVertex, given, mark_at}
 use Rattle.std.specs.Map.{lookup}
 use Rattle.std.specs.BTreeMap.{is_at}
 use Rattle.symbol_table.specs.declared.index.FIndex.{FIndex}
@@ -121,6 +121,8 @@ power_set n a b old new value entries ha hb before is e sets = record {
       ∙ r_more n a b x y z ha hb;
   w = ap (λ d. d.set_w) e ∙ before.w;
   v = ap (λ d. d.set_v) e ∙ before.v;
+  twist = ap (λ d. d.set_twist) e ∙ before.twist;
+  loop_value = ap (λ d. d.set_loop) e ∙ before.loop_value;
 }
 
 -- the values of all second labels are set, or of all labels
@@ -137,6 +139,8 @@ row_set n a b draft end s = record {
   r = λ x y z. s.r x y z ∙ same_r n a b (a + 1) 0 x y z (alike x y z ((x + y) % n));
   w = s.w;
   v = s.v;
+  twist = s.twist;
+  loop_value = s.loop_value;
 }
   where
     inside : (x y : ℕ) → y < n → is_before a b x y ≡ is_before (a + 1) 0 x y
@@ -157,7 +161,7 @@ row_set n a b draft end s = record {
 
 -- nothing is set yet
 pub none_set : (n : ℕ) (rules : Fusion) → rules.count ≡ n → ((x y z : ℕ) → fuses rules x y z ≡ group_fuses n x y z)
-    → IsSetUpTo n 0 0 (record { version = 1; ring = n; rules = rules; set_f = []; set_r = []; set_w = []; set_v = [] })
+    → IsSetUpTo n 0 0 (record { version = 1; ring = n; rules = rules; set_f = []; set_r = []; set_w = []; set_v = []; set_twist = []; set_loop = [] })
 none_set n rules count fuse = record {
   version = refl;
   ring = refl;
@@ -167,6 +171,8 @@ none_set n rules count fuse = record {
   r = λ x y z. sym (ap (λ t. if t && group_fuses n x y z then Some (root_power n ((x * y) % n)) else None) (none x y));
   w = refl;
   v = refl;
+  twist = refl;
+  loop_value = refl;
 }
   where
     none : (x y : ℕ) → is_before 0 0 x y ≡ false
@@ -176,17 +182,19 @@ none_set n rules count fuse = record {
 pub named_is : (n : ℕ) (names : List (List ℕ)) (draft : DraftValue ℕ Ratio) → names ≡ label_names n → IsSetUpTo n n 0 draft → named_draft names draft ≡ made_category n
 named_is n names draft en s =
     ap (λ r. record (named_draft names draft) { root = r }) s.ring
-    ∙ ap (λ ns. named ns draft.version draft.rules.count (fuses draft.rules) draft.set_f (given draft).set_r draft.set_w draft.set_v) en
-    ∙ ap (λ v. named (label_names n) v draft.rules.count (fuses draft.rules) draft.set_f (given draft).set_r draft.set_w draft.set_v) s.version
-    ∙ ap (λ k. named (label_names n) 1 k (fuses draft.rules) draft.set_f (given draft).set_r draft.set_w draft.set_v) s.count
-    ∙ ap (λ f. named (label_names n) 1 n f draft.set_f (given draft).set_r draft.set_w draft.set_v) (fun_ext (λ x. fun_ext (λ y. fun_ext (λ z. s.fuse x y z))))
-    ∙ ap (λ f. named (label_names n) 1 n (group_fuses n) f (given draft).set_r draft.set_w draft.set_v) s.f
-    ∙ ap (λ r. named (label_names n) 1 n (group_fuses n) [] r draft.set_w draft.set_v) (fun_ext (λ x. fun_ext (λ y. fun_ext (λ z. s.r x y z ∙ all_set x y z ((x + y) % n)))))
-    ∙ ap (λ w. named (label_names n) 1 n (group_fuses n) [] (made_category n).given.set_r w draft.set_v) s.w
-    ∙ ap (λ v. named (label_names n) 1 n (group_fuses n) [] (made_category n).given.set_r [] v) s.v
+    ∙ ap (λ ns. named ns draft.version draft.rules.count (fuses draft.rules) draft.set_f (given draft).set_r draft.set_w draft.set_v draft.set_twist draft.set_loop) en
+    ∙ ap (λ v. named (label_names n) v draft.rules.count (fuses draft.rules) draft.set_f (given draft).set_r draft.set_w draft.set_v draft.set_twist draft.set_loop) s.version
+    ∙ ap (λ k. named (label_names n) 1 k (fuses draft.rules) draft.set_f (given draft).set_r draft.set_w draft.set_v draft.set_twist draft.set_loop) s.count
+    ∙ ap (λ f. named (label_names n) 1 n f draft.set_f (given draft).set_r draft.set_w draft.set_v draft.set_twist draft.set_loop) (fun_ext (λ x. fun_ext (λ y. fun_ext (λ z. s.fuse x y z))))
+    ∙ ap (λ f. named (label_names n) 1 n (group_fuses n) f (given draft).set_r draft.set_w draft.set_v draft.set_twist draft.set_loop) s.f
+    ∙ ap (λ r. named (label_names n) 1 n (group_fuses n) [] r draft.set_w draft.set_v draft.set_twist draft.set_loop) (fun_ext (λ x. fun_ext (λ y. fun_ext (λ z. s.r x y z ∙ all_set x y z ((x + y) % n)))))
+    ∙ ap (λ w. named (label_names n) 1 n (group_fuses n) [] (made_category n).given.set_r w draft.set_v draft.set_twist draft.set_loop) s.w
+    ∙ ap (λ v. named (label_names n) 1 n (group_fuses n) [] (made_category n).given.set_r [] v draft.set_twist draft.set_loop) s.v
+    ∙ ap (λ t. named (label_names n) 1 n (group_fuses n) [] (made_category n).given.set_r [] [] t draft.set_loop) s.twist
+    ∙ ap (λ t. named (label_names n) 1 n (group_fuses n) [] (made_category n).given.set_r [] [] [] t) s.loop_value
   where
-    named : List (List ℕ) → ℕ → ℕ → (ℕ → ℕ → ℕ → Bool) → List (FIndex × Ratio) → (ℕ → ℕ → ℕ → Option Ratio) → List (VIndex × Ratio) → List (VIndex × Ratio) → NamedSymbols
-    named ns v k fuse f r w vs = record {
+    named : List (List ℕ) → ℕ → ℕ → (ℕ → ℕ → ℕ → Bool) → List (FIndex × Ratio) → (ℕ → ℕ → ℕ → Option Ratio) → List (VIndex × Ratio) → List (VIndex × Ratio) → List (ℕ × Ratio) → List (ℕ × Ratio) → NamedSymbols
+    named ns v k fuse f r w vs twists loops = record {
       root = n;
       names = ns;
       given = record {
@@ -197,6 +205,8 @@ named_is n names draft en s =
         set_r = r;
         set_w = λ a b c. lookup (is_at (v_cmp (v_index a b c))) w;
         set_v = λ a b c. lookup (is_at (v_cmp (v_index a b c))) vs;
+        set_twist = mark_at twists;
+        set_loop = mark_at loops;
       };
     }
 

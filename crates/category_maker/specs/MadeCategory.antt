@@ -36,5 +36,7 @@ made_category n = record {
     set_r = λ a b c. if group_fuses n a b c then Some (root_power n ((a * b) % n)) else None;
     set_w = λ a b c. None;
     set_v = λ a b c. None;
+    set_twist = λ a. None;
+    set_loop = λ a. None;
   };
 }

@@ -27,3 +27,5 @@ pub record IsSetUpTo (n a b : ℕ) (draft : DraftValue ℕ Ratio) : Type 0 where
   pub r : (x y z : ℕ) → (given draft).set_r x y z ≡ r_up_to n a b x y z
   pub w : draft.set_w ≡ []
   pub v : draft.set_v ≡ []
+  pub twist : draft.set_twist ≡ []
+  pub loop_value : draft.set_loop ≡ []

@@ -13,6 +13,8 @@ use Rattle.category_text.specs.declared.fault.CategoryFault.TheVariants.{At, Mem
 use Rattle.category_text.specs.declared.fault.Refused.{Refused}
 use Rattle.category_text.specs.declared.fault.Stop.{Stop}
 use Rattle.category_text.specs.declared.fault.Stop.TheVariants.{Cause}
+use Rattle.cyclo_core.specs.Ratio.{Ratio}
+use Rattle.symbol_table.specs.Symbols.{Given}
 use Rattle.symbol_table.specs.declared.index.VIndex.{VIndex}
 use Rattle.fusion_rules.specs.Fusion.{Fusion as Rules}
 use Rattle.category_text.specs.Answers.{Fails, Says, Tells, body_said, fault_at, fusing, lined_at, may, rules_given, told_at}
@@ -106,20 +108,20 @@ module _ (n : ℕ) (text : List ℕ) (more : List Found) where
   symbol_fails said kind (Err (Cause cause)) next fault e told is = let same : At n cause ≡ fault = cc in subst (λ f. Fails f (body_said (late said) (Counted n text ∷ more))) same (symbol_stops n text more (late said) cause kind is told)
 
 -- The triple of a fuse line.
-module _ (ring : ℕ) (names words : List (List ℕ)) (old new : Rules) (at : VIndex) (size : sized 4 words ≡ Ok tt) (labels : labels_at names words 1 ≡ Ok at) where
-  pub triple_read : may (fusion_fault (rules_given old) at) ≡ Ok tt → rules_given new ≡ with_fusion (rules_given old) at.a at.b at.c → fuse_of (fusing ring names old).said words ≡ Ok (fusing ring names new)
+module _ (version ring : ℕ) (names words : List (List ℕ)) (old new : Rules) (at : VIndex) (size : sized 4 words ≡ Ok tt) (labels : labels_at names words 1 ≡ Ok at) where
+  pub triple_read : may (fusion_fault (rules_given old) at) ≡ Ok tt → rules_given new ≡ with_fusion (rules_given old) at.a at.b at.c → fuse_of (fusing version ring names old).said words ≡ Ok (fusing version ring names new)
   unfolding fuse_of
   triple_read free grown = rw (size, labels) (go (fusion_fault (rules_given old) at) free)
     where
-      go : (fault : Option CategoryCause) → may fault ≡ Ok tt → fused (fusing ring names old).said at fault ≡ Ok (fusing ring names new)
-      go None e = ap (λ g. Ok (record { said = record { root = ring; names = names; given = g }; has_symbols = false })) (sym grown)
+      go : (fault : Option CategoryCause) → may fault ≡ Ok tt → fused (fusing version ring names old).said at fault ≡ Ok (fusing version ring names new)
+      go None e = ap (λ (g : Given Ratio). Ok (record { said = record { root = ring; names = names; given = record g { version = version } }; has_symbols = false })) (sym grown)
       go (Some cause) e = absurd (cc)
 
-  pub triple_stops : (cause : CategoryCause) → may (fusion_fault (rules_given old) at) ≡ Err cause → fuse_of (fusing ring names old).said words ≡ Err cause
+  pub triple_stops : (cause : CategoryCause) → may (fusion_fault (rules_given old) at) ≡ Err cause → fuse_of (fusing version ring names old).said words ≡ Err cause
   unfolding fuse_of
   triple_stops cause refused = rw (size, labels) (go (fusion_fault (rules_given old) at) refused)
     where
-      go : (fault : Option CategoryCause) → may fault ≡ Err cause → fused (fusing ring names old).said at fault ≡ Err cause
+      go : (fault : Option CategoryCause) → may fault ≡ Err cause → fused (fusing version ring names old).said at fault ≡ Err cause
       go None e = absurd (cc)
       go (Some c) e = e'
         where

@@ -1,19 +1,21 @@
 -- What a draft, its names and the numbers read on the way give can be said.
-use Rattle.std.proofs.Common.{◌≡◌, ℕ, zero, suc, List, Bool, true, false, ◌&&◌, ◌||◌, ◌==◌, length, refl, sym, ◌∙◌, arith}
+use Rattle.std.proofs.Common.{◌≡◌, ℕ, zero, suc, ◌<◌, List, [], Bool, true, false, ◌&&◌, ◌||◌, ◌==◌, None, length, refl, sym, ap, ◌∙◌, arith}
 use Rattle.std.specs.Prelude.{IsTrue}
 use Rattle.std.proofs.lemmas.Bool.Decides.{nat_tests}
 use Rattle.poly_core.specs.Rho.{is_accepted}
 use Rattle.cyclo_core.specs.Ratio.{Ratio}
 use Rattle.fusion_rules.specs.Names.{AreNames}
 use Rattle.fusion_rules.specs.Fusion.{Fusion, AreRules, fuses, unit_fuses, are_labels, stands_at, is_unit_triple}
-use Rattle.symbol_table.specs.Draft.{DraftValue, given, f_index_admissible}
+use Rattle.symbol_table.specs.Draft.{DraftValue, IsVersioned, given, f_index_admissible, mark_at}
 use Rattle.symbol_table.specs.Index.{AreThreeLabels}
 use Rattle.symbol_table.specs.declared.index.FIndex.{FIndex}
 use Rattle.symbol_table.specs.declared.index.VIndex.{VIndex}
+use Rattle.category_text.specs.declared.kind.MarkKind.{MarkKind}
+use Rattle.category_text.specs.declared.kind.MarkKind.TheVariants.{OnTwist, OnLoop}
 use Rattle.category_text.specs.declared.kind.VertexKind.{VertexKind}
 use Rattle.category_text.specs.declared.kind.VertexKind.TheVariants.{OnR, OnW, OnV}
 use Rattle.category_text.specs.Named.{NamedSymbols, named_draft}
-use Rattle.category_text.specs.Canonical.{f_value, vertex_value}
+use Rattle.category_text.specs.Canonical.{f_value, mark_value, marks_of, vertex_value}
 use Rattle.category_text.specs.Writing.{AllNumbers}
 use Rattle.category_text.specs.Again.{IsNumberOf, IsSaid}
 use Rattle.category_text.proofs.SaidLemmas.{left_of, six_labels}
@@ -53,12 +55,20 @@ module _ (names : List (List ℕ)) (draft : DraftValue ℕ Ratio) where
       all.f at.a a at.b b at.c c at.d d at.e e at.f f allowed
 
   vertex_number : AllNumbers said → (kind : VertexKind) (at : VIndex) → IsTrue (fuses draft.rules at.a at.b at.c) → IsNumberOf draft.ring (vertex_value said kind at)
-  vertex_number all OnR at allowed = let (a, b, c) = labels at.a at.b at.c allowed in all.r at.a a at.b b at.c c allowed
-  vertex_number all OnW at allowed = let (a, b, c) = labels at.a at.b at.c allowed in all.w at.a a at.b b at.c c allowed
-  vertex_number all OnV at allowed = let (a, b, c) = labels at.a at.b at.c allowed in all.v at.a a at.b b at.c c allowed
+  vertex_number all OnR at allowed = let (a, b, c) = labels at.a at.b at.c allowed in all.vertex.r at.a a at.b b at.c c allowed
+  vertex_number all OnW at allowed = let (a, b, c) = labels at.a at.b at.c allowed in all.vertex.w at.a a at.b b at.c c allowed
+  vertex_number all OnV at allowed = let (a, b, c) = labels at.a at.b at.c allowed in all.vertex.v at.a a at.b b at.c c allowed
 
-  pub draft_said : AreNames names → length names ≡ draft.rules.count → is_accepted draft.ring ≡ true → AreRules draft.rules → AllNumbers said → IsSaid said
-  draft_said are counted accepted rules all = record {
+  mark_number : AllNumbers said → (kind : MarkKind) (a : ℕ) → a < draft.rules.count → IsNumberOf draft.ring (mark_value said kind a)
+  mark_number all OnTwist a label = all.mark.twist a label
+  mark_number all OnLoop a label = all.mark.loop_value a label
+
+  none_marked : (draft.set_twist ≡ []) × (draft.set_loop ≡ []) → (kind : MarkKind) (a : ℕ) → marks_of (given draft) kind a ≡ None
+  none_marked none OnTwist a = ap (λ marks. mark_at marks a) none.0
+  none_marked none OnLoop a = ap (λ marks. mark_at marks a) none.1
+
+  pub draft_said : AreNames names → length names ≡ draft.rules.count → is_accepted draft.ring ≡ true → AreRules draft.rules → IsVersioned draft.version draft.set_twist draft.set_loop → AllNumbers said → IsSaid said
+  draft_said are counted accepted rules versioned all = record {
     names = are;
     some = (let some = rules.some in omega arith);
     counted = sym counted;
@@ -67,4 +77,7 @@ module _ (names : List (List ℕ)) (draft : DraftValue ℕ Ratio) where
     labels = labels;
     f = f_number all;
     vertex = vertex_number all;
+    version = versioned.known;
+    mark = mark_number all;
+    unmarked = λ first. none_marked (versioned.first first);
   }

@@ -52,7 +52,7 @@ in_counting from (suc k) c low high = go (cases_eq from c) (λ l. in_counting (f
     go (inl e) later = inl e
     go (inr ne) later = inr (later (omega arith))
 
-below : (n c : ℕ) → c < n → In c (counting 0 n)
+pub below : (n c : ℕ) → c < n → In c (counting 0 n)
 below n c lt = in_counting 0 n c (omega arith) (omega arith)
 
 pub in_vertices : (n : ℕ) (t : VIndex) → AreThreeLabels n t.a t.b t.c → In t (vertices n)

@@ -51,9 +51,9 @@ fuse_line_off x t e = go (t.a == 0) (t.b == 0) e
     go false false e = (refl, refl, e)
 
 -- the triples that have a line are new behind the head
-pub fresh_fusion : (x : NamedSymbols) (root : ℕ) (names : List (List ℕ)) (n : ℕ) → n ≤ 16 → ((t : VIndex) → x.given.fuse t.a t.b t.c ≡ true → AreThreeLabels (length names) t.a t.b t.c)
-    → FreshTriples (head_alone root names) (filter (has_fuse_line x) (vertices n))
-fresh_fusion x root names n few labels =
-    fresh_triples (has_fuse_line x) (head_alone root names) 0 (n * 256) (vertices n)
+pub fresh_fusion : (x : NamedSymbols) (version root : ℕ) (names : List (List ℕ)) (n : ℕ) → n ≤ 16 → ((t : VIndex) → x.given.fuse t.a t.b t.c ≡ true → AreThreeLabels (length names) t.a t.b t.c)
+    → FreshTriples (head_alone version root names) (filter (has_fuse_line x) (vertices n))
+fresh_fusion x version root names n few labels =
+    fresh_triples (has_fuse_line x) (head_alone version root names) 0 (n * 256) (vertices n)
     (λ t e. let (u, v, w) = fuse_line_off x t e in (labels t w, u, v))
     (vertices_rise n few) (λ t u v low. off_unit (length names) t.a t.b t.c u v)

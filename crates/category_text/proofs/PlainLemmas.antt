@@ -1,5 +1,5 @@
 -- The lines of names, triples and numbers are plain.
-use Rattle.std.proofs.Common.{◌≡◌, ℕ, ◌*◌, ◌<◌, ◌≤◌, List, [], ◌∷◌, true, length, map, refl, arith, codes}
+use Rattle.std.proofs.Common.{◌≡◌, ℕ, ◌*◌, ◌<◌, ◌≤◌, List, [], ◌∷◌, true, false, length, map, refl, arith, codes, inl, inr}
 use Rattle.std.specs.Fmt.{decimal}
 use Rattle.std.proofs.lemmas.Bool.Decides.{nat_tests}
 use Rattle.std.proofs.lemmas.List.{length-append}
@@ -10,13 +10,14 @@ use Rattle.fusion_rules.proofs.FoundLemmas as found
 use Rattle.fusion_rules.proofs.NameLemmas.{spelled}
 use Rattle.line_text.proofs.PlainWordLemmas.{IsWord, IsLine, some_word, decimal_word, one_word, word_before, plain_append}
 use Rattle.line_text.specs.Spelling.{spaced, plain_bytes, IsPlainLine, ArePlainLines}
+use Rattle.line_text.specs.Text.{skips}
 use Rattle.symbol_table.specs.Index.{AreThreeLabels}
 use Rattle.symbol_table.specs.declared.index.VIndex.{VIndex}
 use Rattle.category_text.specs.declared.kind.Symbol.{Symbol}
-use Rattle.category_text.specs.declared.kind.Symbol.TheVariants.{OfF, OfR, OfW, OfV}
+use Rattle.category_text.specs.declared.kind.Symbol.TheVariants.{OfF, OfR, OfW, OfV, OfTwist, OfLoop}
 use Rattle.category_text.specs.Answers.{SymbolBelow}
-use Rattle.category_text.specs.Named.{NamedSymbols}
-use Rattle.category_text.specs.Canonical.{fuse_line}
+use Rattle.category_text.specs.Named.{IsVersion, NamedSymbols}
+use Rattle.category_text.specs.Canonical.{fuse_line, version_word}
 use Rattle.category_text.specs.Spelled.{symbol_words, words_at, lines_over, head_alone}
 use Rattle.category_text.proofs.FreshLemmas.{Each}
 
@@ -52,6 +53,14 @@ module _ (names : List (List ℕ)) (all : all_names names ≡ true) where
       (word_before (name_of names b) (name_of names c) (word ∷ []) 8 704 (name_at names b all q)
       (word_before (name_of names c) word [] 8 695 (name_at names c all r) (one_word word 695 w)))
 
+  -- a word that begins a line, a name, and a number
+  mark_plain : (word : List ℕ) (a : ℕ) (value : Ratio) → IsWord word 5 → ((more : List (List ℕ)) → skips (word ∷ more) ≡ false) → a < length names → IsWord (spelled_number value) 695
+      → IsPlainLine (word ∷ name_of names a ∷ spelled_number value ∷ [])
+  mark_plain word a value first counts label w =
+      let line = word_before (name_of names a) (spelled_number value) [] 8 695 (name_at names a all label) (one_word (spelled_number value) 695 w) in
+      let whole = word_before word (name_of names a) (spelled_number value ∷ []) 5 704 first line in
+      record { plain = whole.plain; counts = counts (name_of names a ∷ spelled_number value ∷ []); short = omega (arith, whole.short) }
+
   symbol_plain : (s : Symbol) (value : Ratio) → SymbolBelow (length names) s → IsWord (spelled_number value) 695 → IsPlainLine (symbol_words names s value)
   symbol_plain (OfF at) value (a, b, c, d, e, f) w =
       let last = vertex_line at.d at.e at.f (spelled_number value) (d, e, f) w in
@@ -69,6 +78,9 @@ module _ (names : List (List ℕ)) (all : all_names names ≡ true) where
   symbol_plain (OfV at) value labels w =
       let whole = word_before (codes "v") (name_of names at.a) (name_of names at.b ∷ name_of names at.c ∷ spelled_number value ∷ []) 1 722 (record { plain = refl; short = omega arith }) (vertex_line at.a at.b at.c (spelled_number value) labels w) in
       record { plain = whole.plain; counts = refl; short = omega (arith, whole.short) }
+
+  symbol_plain (OfTwist a) value label w = mark_plain (codes "twist") a value (record { plain = refl; short = omega arith }) (λ more. refl) label w
+  symbol_plain (OfLoop a) value label w = mark_plain (codes "loop") a value (record { plain = refl; short = omega arith }) (λ more. refl) label w
 
   fuses_plain : (said : NamedSymbols) (ts : List VIndex) → said.names ≡ names → Each (λ (t : VIndex). AreThreeLabels (length names) t.a t.b t.c) ts → ArePlainLines (map (fuse_line said) ts)
   fuses_plain said [] same labels = tt
@@ -89,16 +101,20 @@ labels_plain (n ∷ ns) are some =
     let whole = word_before (codes "labels") n ns 6 (9 * length (n ∷ ns)) (record { plain = refl; short = omega arith }) (names_line n ns are.spelled) in
     record { plain = whole.plain; counts = refl; short = omega (arith, whole.short, are.few) }
 
-pub plain_lines : (root : ℕ) (names : List (List ℕ)) (ts : List VIndex) (ss : List (Symbol × Ratio)) → AreNames names → 0 < length names → 0 < root → root ≤ 60
+header_plain : (version : ℕ) → IsVersion version → IsPlainLine (codes "category" ∷ version_word version ∷ [])
+header_plain version (inl e) = rw e (record { plain = refl; counts = refl; short = omega arith })
+header_plain version (inr e) = rw e (record { plain = refl; counts = refl; short = omega arith })
+
+pub plain_lines : (version root : ℕ) (names : List (List ℕ)) (ts : List VIndex) (ss : List (Symbol × Ratio)) → IsVersion version → AreNames names → 0 < length names → 0 < root → root ≤ 60
     → Each (λ (t : VIndex). AreThreeLabels (length names) t.a t.b t.c) ts → Each (λ (s : Symbol × Ratio). SymbolBelow (length names) s.0 × IsWord (spelled_number s.1) 695) ss
-    → ArePlainLines (lines_over (head_alone root names) ts ss)
-plain_lines root names ts ss are some low high labels each = (
-  record { plain = refl; counts = refl; short = omega arith },
+    → ArePlainLines (lines_over (head_alone version root names) ts ss)
+plain_lines version root names ts ss is are some low high labels each = (
+  header_plain version is,
   (
     root_plain root low high,
     (
       labels_plain names are some,
-      plain_append (map (fuse_line (head_alone root names)) ts) (map (words_at names) ss) (fuses_plain names are.spelled (head_alone root names) ts refl labels) (symbols_plain names are.spelled ss each),
+      plain_append (map (fuse_line (head_alone version root names)) ts) (map (words_at names) ss) (fuses_plain names are.spelled (head_alone version root names) ts refl labels) (symbols_plain names are.spelled ss each),
     ),
   ),
 )

@@ -61,7 +61,7 @@ v_code t = t.a * 256 + t.b * 16 + t.c
 abbrev pub f_code : FIndex → ℕ
 f_code t = t.a * 1048576 + t.b * 65536 + t.c * 4096 + t.d * 256 + t.e * 16 + t.f
 
-rises_counting : (from k : ℕ) → Rises itself from (from + k) (counting from k)
+pub rises_counting : (from k : ℕ) → Rises itself from (from + k) (counting from k)
 rises_counting from zero = omega arith
 rises_counting from (suc k) = (omega arith, rises_to itself (from + 1) (from + 1 + k) (from + suc k) (counting (from + 1) k) (rises_counting (from + 1) k) (omega arith))
 

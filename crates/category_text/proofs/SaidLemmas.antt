@@ -1,9 +1,11 @@
 -- What can be said has labels below the number of its names.
-use Rattle.std.proofs.Common.{◌≡◌, ℕ, ◌≤◌, Bool, true, false, ◌&&◌, length, refl, subst, arith}
+use Rattle.std.specs.Prelude.{nat_lt}
+use Rattle.std.proofs.lemmas.Bool.Decides.{nat_tests}
+use Rattle.std.proofs.Common.{◌≡◌, ℕ, ◌<◌, ◌≤◌, Bool, true, false, ◌&&◌, length, refl, subst, arith}
 use Rattle.symbol_table.specs.Index.{AreThreeLabels, AreSixLabels}
 use Rattle.symbol_table.specs.Symbols.{f_admissible}
 use Rattle.category_text.specs.declared.kind.Symbol.{Symbol}
-use Rattle.category_text.specs.declared.kind.Symbol.TheVariants.{OfF, OfR, OfW, OfV}
+use Rattle.category_text.specs.declared.kind.Symbol.TheVariants.{OfF, OfR, OfW, OfV, OfTwist, OfLoop}
 use Rattle.category_text.specs.Named.{NamedSymbols}
 use Rattle.category_text.specs.Answers.{SymbolBelow}
 use Rattle.category_text.specs.Again.{IsSaid}
@@ -13,7 +15,7 @@ pub left_of : (a b : Bool) → (a && b) ≡ true → a ≡ true
 left_of true b e = refl
 left_of false b e = e
 
-right_of : (a b : Bool) → (a && b) ≡ true → b ≡ true
+pub right_of : (a b : Bool) → (a && b) ≡ true → b ≡ true
 right_of true b e = e
 right_of false b e = absurd (cc)
 
@@ -35,11 +37,16 @@ module _ (x : NamedSymbols) (said : IsSaid x) where
   pub labels_named : (a b c : ℕ) → x.given.fuse a b c ≡ true → AreThreeLabels (length x.names) a b c
   labels_named a b c e = subst (λ n. AreThreeLabels n a b c) said.counted (said.labels a b c e)
 
-  pub symbol_labels : (s : Symbol) → admitted x.given.fuse s ≡ true → SymbolBelow x.given.count s
+  below : (a : ℕ) → nat_lt a x.given.count ≡ true → a < x.given.count
+  below a e = grind (arith, nat_tests)
+
+  pub symbol_labels : (s : Symbol) → admitted x.given.count x.given.fuse s ≡ true → SymbolBelow x.given.count s
   symbol_labels (OfF at) e = six_labels x.given.fuse x.given.count said.labels at.a at.b at.c at.d at.e at.f e
   symbol_labels (OfR at) e = said.labels at.a at.b at.c e
   symbol_labels (OfW at) e = said.labels at.a at.b at.c e
   symbol_labels (OfV at) e = said.labels at.a at.b at.c e
+  symbol_labels (OfTwist a) e = below a e
+  symbol_labels (OfLoop a) e = below a e
 
-  pub symbol_named : (s : Symbol) → admitted x.given.fuse s ≡ true → SymbolBelow (length x.names) s
+  pub symbol_named : (s : Symbol) → admitted x.given.count x.given.fuse s ≡ true → SymbolBelow (length x.names) s
   symbol_named s e = subst (λ n. SymbolBelow n s) said.counted (symbol_labels s e)

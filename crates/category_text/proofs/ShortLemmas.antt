@@ -9,10 +9,12 @@ use Rattle.line_text.specs.Spelling.{spaced, spelled, ArePlainLines}
 use Rattle.fusion_rules.specs.declared.label.TheConstants.{LABEL_LIMIT}
 use Rattle.symbol_table.specs.Index.{v_index}
 use Rattle.symbol_table.specs.declared.index.VIndex.{VIndex}
+use Rattle.category_text.specs.declared.kind.MarkKind.{MarkKind}
+use Rattle.category_text.specs.declared.kind.MarkKind.TheVariants.{OnTwist, OnLoop}
 use Rattle.category_text.specs.declared.kind.VertexKind.{VertexKind}
 use Rattle.category_text.specs.declared.kind.VertexKind.TheVariants.{OnR, OnW, OnV}
 use Rattle.category_text.specs.Named.{NamedSymbols}
-use Rattle.category_text.specs.Canonical.{counting, vertices, sixes, behind, has_fuse_line, has_f_line, has_vertex_line, head_lines, fuse_lines, f_lines, vertex_lines, canonical_lines, fuse_line, f_line, vertex_line, canonical}
+use Rattle.category_text.specs.Canonical.{counting, vertices, sixes, behind, has_fuse_line, has_f_line, has_mark_line, has_vertex_line, head_lines, fuse_lines, f_lines, mark_lines, vertex_lines, canonical_lines, fuse_line, f_line, mark_line, vertex_line, canonical}
 use Rattle.category_text.proofs.RiseLemmas.{v_row, v_plane}
 
 all_of : {A : Type 0} (P : A → Type 0) → ((x : A) → P x) → (xs : List A) → All P xs
@@ -69,7 +71,10 @@ module _ (x : NamedSymbols) (few : x.given.count ≤ LABEL_LIMIT) where
   kind_short : (kind : VertexKind) → length (vertex_lines x kind) ≤ 1728
   kind_short kind = omega (arith, length-map (filter (has_vertex_line x kind) (vertices x.given.count)) (vertex_line x kind), filter_short (has_vertex_line x kind) (vertices x.given.count), vertices_short x.given.count few)
 
-  lines_short : length (canonical_lines x) ≤ 2992899
+  marks_short : (kind : MarkKind) → length (mark_lines x kind) ≤ 12
+  marks_short kind = omega (arith, length-map (filter (has_mark_line x kind) (counting 0 x.given.count)) (mark_line x kind), filter_short (has_mark_line x kind) (counting 0 x.given.count), counting_length 0 x.given.count)
+
+  lines_short : length (canonical_lines x) ≤ 2992923
   lines_short =
       omega (
         arith,
@@ -78,11 +83,15 @@ module _ (x : NamedSymbols) (few : x.given.count ≤ LABEL_LIMIT) where
         kind_short OnR,
         kind_short OnW,
         kind_short OnV,
-        length-append (head_lines x) (fuse_lines x ++ (f_lines x ++ (vertex_lines x OnR ++ (vertex_lines x OnW ++ vertex_lines x OnV)))),
-        length-append (fuse_lines x) (f_lines x ++ (vertex_lines x OnR ++ (vertex_lines x OnW ++ vertex_lines x OnV))),
-        length-append (f_lines x) (vertex_lines x OnR ++ (vertex_lines x OnW ++ vertex_lines x OnV)),
-        length-append (vertex_lines x OnR) (vertex_lines x OnW ++ vertex_lines x OnV),
-        length-append (vertex_lines x OnW) (vertex_lines x OnV),
+        marks_short OnTwist,
+        marks_short OnLoop,
+        length-append (head_lines x) (fuse_lines x ++ (f_lines x ++ (vertex_lines x OnR ++ (vertex_lines x OnW ++ (vertex_lines x OnV ++ (mark_lines x OnTwist ++ mark_lines x OnLoop)))))),
+        length-append (fuse_lines x) (f_lines x ++ (vertex_lines x OnR ++ (vertex_lines x OnW ++ (vertex_lines x OnV ++ (mark_lines x OnTwist ++ mark_lines x OnLoop))))),
+        length-append (f_lines x) (vertex_lines x OnR ++ (vertex_lines x OnW ++ (vertex_lines x OnV ++ (mark_lines x OnTwist ++ mark_lines x OnLoop)))),
+        length-append (vertex_lines x OnR) (vertex_lines x OnW ++ (vertex_lines x OnV ++ (mark_lines x OnTwist ++ mark_lines x OnLoop))),
+        length-append (vertex_lines x OnW) (vertex_lines x OnV ++ (mark_lines x OnTwist ++ mark_lines x OnLoop)),
+        length-append (vertex_lines x OnV) (mark_lines x OnTwist ++ mark_lines x OnLoop),
+        length-append (mark_lines x OnTwist) (mark_lines x OnLoop),
       )
 
   pub text_short : ArePlainLines (canonical_lines x) → length (canonical x) < 2 ^ 32 - 1

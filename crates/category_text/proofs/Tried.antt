@@ -13,7 +13,7 @@ use Rattle.category_text.specs.Reading.{Fault, category_of, front_of, head_of, l
 
 -- one triple beside those of the unit
 one_triple : Result NamedSymbols Fault
-one_triple = Ok (record { root = 5; names = codes "1" ∷ codes "t" ∷ []; given = with_fusion (only_units 2) 1 1 0 })
+one_triple = Ok (record { root = 5; names = codes "1" ∷ codes "t" ∷ []; given = with_fusion (only_units 1 2) 1 1 0 })
 
 read_well : category_of (codes "category 1\n root  5\nlabels 1 t\n\n# c\nfuse t t 1") ≡ one_triple
 unfolding category_of head_of front_of line_of fuse_of symbol_of is_accepted totient gcd one_triple
@@ -106,3 +106,30 @@ long = refl
 unknown : category_of (codes "category 1\nroot 5\nlabels 1 t\nfuse 1 t q\n") ≡ Err (record { line = 4; cause = UnknownLabel })
 unfolding category_of head_of front_of line_of fuse_of is_accepted totient gcd
 unknown = refl
+
+-- The second version: its header, marks and their causes.
+third_version : category_of (codes "category 3\nroot 5\nlabels 1 t\n") ≡ Err (record { line = 1; cause = Header })
+unfolding category_of head_of front_of
+third_version = refl
+
+-- in the first version a mark is another word, also in a line that is too short
+no_marks : category_of (codes "category 1\nroot 5\nlabels 1 t\ntwist\n") ≡ Err (record { line = 4; cause = Word })
+unfolding category_of head_of front_of line_of symbol_of is_accepted totient gcd
+no_marks = refl
+
+short_mark : category_of (codes "category 2\nroot 5\nlabels 1 t\ntwist q\n") ≡ Err (record { line = 4; cause = Short })
+unfolding category_of head_of front_of line_of symbol_of is_accepted totient gcd
+short_mark = refl
+
+unknown_mark : category_of (codes "category 2\nroot 5\nlabels 1 t\nloop q x\n") ≡ Err (record { line = 4; cause = UnknownLabel })
+unfolding category_of head_of front_of line_of symbol_of is_accepted totient gcd
+unknown_mark = refl
+
+-- a loop value behind a twist of the same label is new, a second twist isn't; fuse lines stand before marks too
+mark_twice : category_of (codes "category 2\nroot 5\nlabels 1 t\ntwist t 1\nloop t 1\ntwist t x\n") ≡ Err (record { line = 6; cause = Repeated })
+unfolding category_of head_of front_of line_of symbol_of is_accepted totient gcd number_of halves_of number_over value_of is_part is_natural part_value reduced content
+mark_twice = refl
+
+fuse_behind_mark : category_of (codes "category 2\nroot 5\nlabels 1 t\ntwist t 1\nfuse\n") ≡ Err (record { line = 5; cause = Misplaced })
+unfolding category_of head_of front_of line_of symbol_of is_accepted totient gcd number_of halves_of number_over value_of is_part is_natural part_value reduced content
+fuse_behind_mark = refl

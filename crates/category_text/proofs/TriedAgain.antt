@@ -1,5 +1,5 @@
--- What can be said, tried: the unit alone, and the Fibonacci category.
-use Rattle.std.proofs.Common.{◌≡◌, ℕ, zero, suc, ◌≤◌, List, [], ◌∷◌, ◌||◌, ◌==◌, refl, sym, ap, ◌∙◌, codes, arith}
+-- What can be said, tried: the unit alone, and the Fibonacci category of version 2.
+use Rattle.std.proofs.Common.{◌≡◌, ℕ, zero, suc, ◌≤◌, List, [], ◌∷◌, ◌||◌, ◌==◌, false, None, refl, sym, ap, ◌∙◌, codes, arith, inl, inr}
 use Rattle.std.specs.Prelude.{ℤ, pos, negsuc, IsTrue}
 use Rattle.std.proofs.lemmas.Bool.Decides.{nat_tests}
 use Rattle.poly_core.specs.Combination.{nought}
@@ -13,11 +13,12 @@ use Rattle.cyclo_core.specs.Ratio.{Ratio, ring_at, tabulate, reduced, coefficien
 use Rattle.fusion_rules.specs.Fusion.{unit_fuses}
 use Rattle.symbol_table.specs.Index.{AreThreeLabels, f_index, v_index}
 use Rattle.category_text.specs.declared.kind.Symbol.{Symbol}
-use Rattle.category_text.specs.declared.kind.Symbol.TheVariants.{OfF, OfR, OfW, OfV}
-use Rattle.category_text.specs.Named.{NamedSymbols}
+use Rattle.category_text.specs.declared.kind.Symbol.TheVariants.{OfF, OfR, OfW, OfV, OfTwist, OfLoop}
+use Rattle.category_text.specs.Named.{NamedSymbols, has_symbol}
 use Rattle.category_text.specs.Spelled.{fused_all, set_with, set_all, head_alone}
 use Rattle.category_text.specs.Again.{IsNumberOf, IsSaid}
-use Rattle.category_text.proofs.FreshLemmas.{Each}
+use Rattle.category_text.proofs.FreshLemmas.{Each, set_of_head}
+use Rattle.category_text.proofs.IndexLemmas.{set_of}
 use Rattle.category_text.proofs.KeepLemmas.{AreSetNumbers, numbers_with, numbers_alone, grown_said}
 
 numbers_all : (said : NamedSymbols) (ss : List (Symbol × Ratio)) → AreSetNumbers said.root said.given → Each (λ (s : Symbol × Ratio). IsNumberOf said.root s.1) ss → AreSetNumbers said.root (set_all said ss).given
@@ -25,21 +26,26 @@ numbers_all said [] all each = all
 numbers_all said (s ∷ ss) all each = numbers_all (set_with said s.0 s.1) ss (numbers_with said.root said.given s.0 s.1 all each.0) each.1
 
 -- the unit alone
-unit_alone : IsSaid (head_alone 1 (codes "1" ∷ []))
+unit_alone : IsSaid (head_alone 1 1 (codes "1" ∷ []))
 unfolding is_accepted totient gcd
 unit_alone =
-    grown_said (head_alone 1 (codes "1" ∷ [])) (record {
+    grown_said (head_alone 1 1 (codes "1" ∷ [])) (record {
       names = record { few = omega arith; spelled = refl; distinct = refl };
       some = omega arith;
       counted = refl;
       accepted = refl;
       units = λ a b c unit. refl;
       labels = λ a b c e. labels a b c e;
-      numbers = numbers_alone 1 1;
+      numbers = numbers_alone 1 1 1;
+      version = inl refl;
+      unmarked = none;
     })
   where
     labels : (a b c : ℕ) → IsTrue (unit_fuses 1 a b c) → AreThreeLabels 1 a b c
     labels a b c e = (grind (arith, nat_tests), grind (arith, nat_tests), grind (arith, nat_tests))
+
+    none : (s : Symbol) → has_symbol 1 s ≡ false → set_of (head_alone 1 1 (codes "1" ∷ [])).given s ≡ None
+    none s e = set_of_head 1 1 (codes "1" ∷ []) s
 
 -- sums of powers of a fifth root of unity
 fifth : ℤ → ℤ → ℤ → ℤ → Ratio
@@ -66,13 +72,14 @@ fifth_member a b c d =
 
 -- its triples, and the values that aren't 1
 fibonacci_rules : NamedSymbols
-fibonacci_rules = fused_all (head_alone 5 (codes "1" ∷ codes "t" ∷ [])) (v_index 1 1 0 ∷ v_index 1 1 1 ∷ [])
+fibonacci_rules = fused_all (head_alone 2 5 (codes "1" ∷ codes "t" ∷ [])) (v_index 1 1 0 ∷ v_index 1 1 1 ∷ [])
 
 fibonacci_values : List (Symbol × Ratio)
 fibonacci_values =
     (OfF (f_index 1 1 1 1 0 0), fifth (negsuc 0) (pos 0) (negsuc 0) (negsuc 0)) ∷ (OfF (f_index 1 1 1 1 0 1), fifth (negsuc 0) (pos 0) (negsuc 0) (negsuc 0)) ∷ (OfF (f_index 1 1 1 1 1 1), fifth (pos 1) (pos 0) (pos 1) (pos 1))
     ∷ (OfR (v_index 1 1 0), fifth (pos 0) (pos 0) (pos 0) (pos 1)) ∷ (OfR (v_index 1 1 1), fifth (pos 1) (pos 1) (pos 1) (pos 1))
-    ∷ (OfW (v_index 1 1 0), fifth (negsuc 0) (pos 0) (negsuc 0) (negsuc 0)) ∷ (OfV (v_index 1 1 0), fifth (pos 0) (pos 0) (negsuc 0) (negsuc 0)) ∷ []
+    ∷ (OfW (v_index 1 1 0), fifth (negsuc 0) (pos 0) (negsuc 0) (negsuc 0)) ∷ (OfV (v_index 1 1 0), fifth (pos 0) (pos 0) (negsuc 0) (negsuc 0))
+    ∷ (OfTwist 1, fifth (pos 0) (pos 0) (pos 1) (pos 0)) ∷ (OfLoop 1, fifth (pos 0) (pos 0) (negsuc 0) (negsuc 0)) ∷ []
 
 each_number : Each (λ (s : Symbol × Ratio). IsNumberOf 5 s.1) fibonacci_values
 unfolding fibonacci_values fifth is_held
@@ -86,7 +93,7 @@ each_number = (
         (fifth_member (pos 0) (pos 0) (pos 0) (pos 1), refl),
         (
           (fifth_member (pos 1) (pos 1) (pos 1) (pos 1), refl),
-          ((fifth_member (negsuc 0) (pos 0) (negsuc 0) (negsuc 0), refl), ((fifth_member (pos 0) (pos 0) (negsuc 0) (negsuc 0), refl), tt)),
+          ((fifth_member (negsuc 0) (pos 0) (negsuc 0) (negsuc 0), refl), ((fifth_member (pos 0) (pos 0) (negsuc 0) (negsuc 0), refl), ((fifth_member (pos 0) (pos 0) (pos 1) (pos 0), refl), ((fifth_member (pos 0) (pos 0) (negsuc 0) (negsuc 0), refl), tt)))),
         ),
       ),
     ),
@@ -99,6 +106,8 @@ numbers_none (OfF at) = tt
 numbers_none (OfR at) = tt
 numbers_none (OfW at) = tt
 numbers_none (OfV at) = tt
+numbers_none (OfTwist a) = tt
+numbers_none (OfLoop a) = tt
 
 fibonacci : IsSaid (set_all fibonacci_rules fibonacci_values)
 unfolding fibonacci_rules fibonacci_values is_accepted totient gcd
@@ -111,8 +120,18 @@ fibonacci =
       units = units;
       labels = labels;
       numbers = numbers_all fibonacci_rules fibonacci_values numbers_none each_number;
+      version = inr refl;
+      unmarked = unmarked;
     })
   where
+    unmarked : (s : Symbol) → has_symbol 2 s ≡ false → set_of (set_all fibonacci_rules fibonacci_values).given s ≡ None
+    unmarked (OfF at) e = absurd (cc)
+    unmarked (OfR at) e = absurd (cc)
+    unmarked (OfW at) e = absurd (cc)
+    unmarked (OfV at) e = absurd (cc)
+    unmarked (OfTwist at) e = absurd (cc)
+    unmarked (OfLoop at) e = absurd (cc)
+
     units : (a b c : ℕ) → IsTrue (a == 0 || b == 0) → fibonacci_rules.given.fuse a b c ≡ unit_fuses 2 a b c
     units a b c unit = grind (arith, nat_tests)
 

@@ -13,11 +13,13 @@ use Rattle.symbol_table.specs.Index.{v_index}
 use Rattle.symbol_table.specs.declared.index.FIndex.{FIndex}
 use Rattle.symbol_table.specs.declared.index.VIndex.{VIndex}
 use Rattle.fusion_rules.specs.Names.{name_of}
+use Rattle.category_text.specs.declared.kind.MarkKind.{MarkKind}
+use Rattle.category_text.specs.declared.kind.MarkKind.TheVariants.{OnTwist, OnLoop}
 use Rattle.category_text.specs.declared.kind.VertexKind.{VertexKind}
 use Rattle.category_text.specs.declared.kind.VertexKind.TheVariants.{OnR, OnW, OnV}
 use Rattle.category_text.specs.Named.{NamedSymbols}
-use Rattle.category_text.specs.Canonical.{counting, vertices, sixes, behind, fuse_line, f_line, vertex_line, has_fuse_line, has_f_line, has_vertex_line, fuse_lines, f_lines, vertex_lines, head_lines, canonical}
-use Rattle.category_text.specs.Writing.{texts, fuse_text, f_text, vertex_text, row, plane, space, behind_text, written}
+use Rattle.category_text.specs.Canonical.{counting, vertices, sixes, behind, fuse_line, f_line, vertex_line, has_fuse_line, has_f_line, has_mark_line, has_vertex_line, fuse_lines, f_lines, mark_lines, vertex_lines, head_lines, mark_line, canonical}
+use Rattle.category_text.specs.Writing.{texts, fuse_text, f_text, mark_text, marks_text, all_marks_text, vertex_text, vertices_text, row, plane, space, behind_text, written}
 
 -- text behind text
 pub behind_again : (t u v x y : List ℕ) → u ≡ t ++ x → v ≡ u ++ y → v ≡ t ++ (x ++ y)
@@ -99,20 +101,41 @@ module _ (named : NamedSymbols) where
   vertices_are : (kind : VertexKind) → space named.given.count (vertex_text named kind) ≡ spelled (vertex_lines named kind)
   vertices_are kind = sym (texts_space named.given.count (vertex_text named kind)) ∙ lines_are (vertex_line named kind) (has_vertex_line named kind) (vertices named.given.count)
 
+  marks_are : (kind : MarkKind) → marks_text named kind ≡ spelled (mark_lines named kind)
+  marks_are kind = lines_are (mark_line named kind) (has_mark_line named kind) (counting 0 named.given.count)
+
+  -- texts of vertices and of marks, each in front of the next
+  three_parts : (a b c d : List ℕ) → (a ++ (b ++ c)) ++ d ≡ a ++ (b ++ (c ++ d))
+  three_parts a b c d = append_assoc a (b ++ c) d ∙ ap (λ t. a ++ t) (append_assoc b c d)
+
+  abbrev marks : List (List (List ℕ))
+  marks = mark_lines named OnTwist ++ mark_lines named OnLoop
+
+  behind_are : vertices_text named ++ all_marks_text named ≡ spelled (vertex_lines named OnR ++ (vertex_lines named OnW ++ (vertex_lines named OnV ++ marks)))
+  behind_are =
+      three_parts (space named.given.count (vertex_text named OnR)) (space named.given.count (vertex_text named OnW)) (space named.given.count (vertex_text named OnV)) (all_marks_text named)
+      ∙ rw (
+        spelled-append (vertex_lines named OnR) (vertex_lines named OnW ++ (vertex_lines named OnV ++ marks)),
+        spelled-append (vertex_lines named OnW) (vertex_lines named OnV ++ marks),
+        spelled-append (vertex_lines named OnV) marks,
+        spelled-append (mark_lines named OnTwist) (mark_lines named OnLoop),
+        vertices_are OnR,
+        vertices_are OnW,
+        vertices_are OnV,
+        marks_are OnTwist,
+        marks_are OnLoop,
+      ) refl
+
   pub written_is : written named ≡ canonical named
   unfolding canonical
   written_is =
       rw (
-        spelled-append (head_lines named) (fuse_lines named ++ (f_lines named ++ (vertex_lines named OnR ++ (vertex_lines named OnW ++ vertex_lines named OnV)))),
-        spelled-append (fuse_lines named) (f_lines named ++ (vertex_lines named OnR ++ (vertex_lines named OnW ++ vertex_lines named OnV))),
-        spelled-append (f_lines named) (vertex_lines named OnR ++ (vertex_lines named OnW ++ vertex_lines named OnV)),
-        spelled-append (vertex_lines named OnR) (vertex_lines named OnW ++ vertex_lines named OnV),
-        spelled-append (vertex_lines named OnW) (vertex_lines named OnV),
+        spelled-append (head_lines named) (fuse_lines named ++ (f_lines named ++ (vertex_lines named OnR ++ (vertex_lines named OnW ++ (vertex_lines named OnV ++ marks))))),
+        spelled-append (fuse_lines named) (f_lines named ++ (vertex_lines named OnR ++ (vertex_lines named OnW ++ (vertex_lines named OnV ++ marks)))),
+        spelled-append (f_lines named) (vertex_lines named OnR ++ (vertex_lines named OnW ++ (vertex_lines named OnV ++ marks))),
         fuses_are,
         fs_are,
-        vertices_are OnR,
-        vertices_are OnW,
-        vertices_are OnV,
+        behind_are,
       ) refl
 
 -- a test that says whether two numbers are equal
@@ -137,10 +160,10 @@ pub refused : {T E : Type 0} (r : Result T E) (e : E) (old new text : List ℕ) 
 refused r e old new text is kept = rw is kept
 
 -- the head, part by part
-pub head_is : (root : ℕ) (names : List (List ℕ)) (a b c d e f g h : List ℕ) → b ≡ a ++ spelled ((codes "category" ∷ codes "1" ∷ []) ∷ []) → c ≡ b ++ codes "root" → d ≡ c ++ 32 ∷ decimal root → e ≡ d ++ 10 ∷ [] → f ≡ e ++ codes "labels" → g ≡ f ++ spaced_on names → h ≡ g ++ 10 ∷ []
-    → h ≡ a ++ spelled ((codes "category" ∷ codes "1" ∷ []) ∷ (codes "root" ∷ decimal root ∷ []) ∷ (codes "labels" ∷ names) ∷ [])
-head_is root names a b c d e f g h one two three four five six seven =
+pub head_is : (word : List ℕ) (root : ℕ) (names : List (List ℕ)) (a b c d e f g h : List ℕ) → b ≡ a ++ spelled ((codes "category" ∷ word ∷ []) ∷ []) → c ≡ b ++ codes "root" → d ≡ c ++ 32 ∷ decimal root → e ≡ d ++ 10 ∷ [] → f ≡ e ++ codes "labels" → g ≡ f ++ spaced_on names → h ≡ g ++ 10 ∷ []
+    → h ≡ a ++ spelled ((codes "category" ∷ word ∷ []) ∷ (codes "root" ∷ decimal root ∷ []) ∷ (codes "labels" ∷ names) ∷ [])
+head_is word root names a b c d e f g h one two three four five six seven =
     let last : h ≡ e ++ spelled ((codes "labels" ∷ names) ∷ []) = line_more (codes "labels") names e f g h five six seven in
     let middle : e ≡ b ++ spelled ((codes "root" ∷ decimal root ∷ []) ∷ []) = line_more (codes "root") (decimal root ∷ []) b c d e two (three ∙ ap (λ t. c ++ t) (sym (append-nil (32 ∷ decimal root)))) four in
-    behind_again a b h (spelled ((codes "category" ∷ codes "1" ∷ []) ∷ [])) (spelled ((codes "root" ∷ decimal root ∷ []) ∷ []) ++ spelled ((codes "labels" ∷ names) ∷ [])) one (behind_again b e h (spelled ((codes "root" ∷ decimal root ∷ []) ∷ [])) (spelled ((codes "labels" ∷ names) ∷ [])) middle last)
-    ∙ ap (λ t. a ++ t) (sym (spelled-append ((codes "category" ∷ codes "1" ∷ []) ∷ []) ((codes "root" ∷ decimal root ∷ []) ∷ (codes "labels" ∷ names) ∷ []) ∙ ap (λ t. spelled ((codes "category" ∷ codes "1" ∷ []) ∷ []) ++ t) (spelled-append ((codes "root" ∷ decimal root ∷ []) ∷ []) ((codes "labels" ∷ names) ∷ []))))
+    behind_again a b h (spelled ((codes "category" ∷ word ∷ []) ∷ [])) (spelled ((codes "root" ∷ decimal root ∷ []) ∷ []) ++ spelled ((codes "labels" ∷ names) ∷ [])) one (behind_again b e h (spelled ((codes "root" ∷ decimal root ∷ []) ∷ [])) (spelled ((codes "labels" ∷ names) ∷ [])) middle last)
+    ∙ ap (λ t. a ++ t) (sym (spelled-append ((codes "category" ∷ word ∷ []) ∷ []) ((codes "root" ∷ decimal root ∷ []) ∷ (codes "labels" ∷ names) ∷ []) ∙ ap (λ t. spelled ((codes "category" ∷ word ∷ []) ∷ []) ++ t) (spelled-append ((codes "root" ∷ decimal root ∷ []) ∷ []) ((codes "labels" ∷ names) ∷ []))))

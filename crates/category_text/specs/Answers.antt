@@ -1,5 +1,5 @@
 -- What functions of the code answer: what is stated, unless memory runs out.
-use Rattle.std.specs.Prelude.{◌≡◌, ℕ, List, [], ◌∷◌, ◌++◌, true, false, ◌==◌, nat_lt, length, if◌then◌else◌, Option, Some, None, Result, Ok, Err}
+use Rattle.std.specs.Prelude.{◌≡◌, ℕ, ◌<◌, List, [], ◌∷◌, ◌++◌, true, false, ◌==◌, nat_lt, length, if◌then◌else◌, Option, Some, None, Result, Ok, Err}
 use Rattle.line_text.specs.Text.{Found, Counted}
 use Rattle.line_text.specs.declared.fault.LineFault.{LineFault}
 use Rattle.fusion_rules.specs.declared.label.TheConstants.{LABEL_LIMIT}
@@ -16,9 +16,13 @@ use Rattle.category_text.specs.declared.fault.Refused.{Refused}
 use Rattle.category_text.specs.declared.fault.Stop.{Stop}
 use Rattle.category_text.specs.declared.fault.Stop.TheVariants.{Cause}
 use Rattle.category_text.specs.declared.kind.Symbol.{Symbol}
-use Rattle.category_text.specs.declared.kind.Symbol.TheVariants.{OfF, OfR, OfW, OfV}
+use Rattle.category_text.specs.declared.kind.Symbol.TheVariants.{OfF, OfR, OfW, OfV, OfTwist, OfLoop}
 use Rattle.category_text.specs.declared.symbol_line.SymbolLine.{SymbolLine}
 use Rattle.symbol_table.specs.Draft.{DraftValue}
+use Rattle.symbol_table.specs.declared.draft.MarkFault.{MarkFault}
+use Rattle.symbol_table.specs.declared.draft.MarkFault.TheVariants as mark
+use Rattle.symbol_table.specs.declared.draft.SetFault.{SetFault}
+use Rattle.symbol_table.specs.declared.draft.SetFault.TheVariants as set
 use Rattle.category_text.specs.Named.{NamedSymbols, named_draft}
 use Rattle.category_text.specs.Reading.{◌>>=◌, Fault, SoFar, body_of}
 
@@ -67,7 +71,7 @@ told_at line (Err (Cause cause)) = Err (At line cause)
 
 -- What the lines so far said.
 
--- the triples of rules, and no value
+-- the triples of rules, and no value, in version 1
 abbrev pub rules_given : Fusion → Given Ratio
 rules_given rules = record {
   version = 1;
@@ -77,15 +81,17 @@ rules_given rules = record {
   set_r = λ a b c. None;
   set_w = λ a b c. None;
   set_v = λ a b c. None;
+  set_twist = λ a. None;
+  set_loop = λ a. None;
 }
 
 -- rules alone, as a draft of no value
-abbrev pub bare : ℕ → Fusion → DraftValue ℕ Ratio
-bare ring rules = record { version = 1; ring = ring; rules = rules; set_f = []; set_r = []; set_w = []; set_v = [] }
+abbrev pub bare : ℕ → ℕ → Fusion → DraftValue ℕ Ratio
+bare version ring rules = record { version = version; ring = ring; rules = rules; set_f = []; set_r = []; set_w = []; set_v = []; set_twist = []; set_loop = [] }
 
 -- while fuse lines are read, and from the first symbol line on
-abbrev pub fusing : ℕ → List (List ℕ) → Fusion → SoFar
-fusing ring names rules = record { said = named_draft names (bare ring rules); has_symbols = false }
+abbrev pub fusing : ℕ → ℕ → List (List ℕ) → Fusion → SoFar
+fusing version ring names rules = record { said = named_draft names (bare version ring rules); has_symbols = false }
 
 abbrev pub setting : List (List ℕ) → DraftValue ℕ Ratio → SoFar
 setting names draft = record { said = named_draft names draft; has_symbols = true }
@@ -99,10 +105,11 @@ abbrev pub left_of : Option SymbolLine → List Found → List Found
 left_of None found = []
 left_of (Some symbol) found = Counted symbol.line.number symbol.line.text.now ∷ found
 
--- What is left behind the fuse lines, over any ring: the text says what the rest says over these rules.
+-- What is left behind the fuse lines, in any version and over any ring: the text says what the rest says over these rules.
 abbrev pub Fuses : List (List ℕ) → Result (Option SymbolLine) Refused → Fusion → Fusion → List Found → List Found → Type 0
-Fuses names (Ok first) old new found left = (ring : ℕ) → body_said (fusing ring names old) found ≡ body_said (setting names (bare ring new)) (left_of first left)
-Fuses names (Err refused) old new found left = (ring : ℕ) → body_said (fusing ring names old) found ≡ Err (fault_at refused)
+Fuses names (Ok first) old new found left =
+    (version ring : ℕ) → body_said (fusing version ring names old) found ≡ body_said (setting names (bare version ring new)) (left_of first left)
+Fuses names (Err refused) old new found left = (version ring : ℕ) → body_said (fusing version ring names old) found ≡ Err (fault_at refused)
 
 -- the next symbol line behind others
 abbrev pub FindsSymbol : Result (Option SymbolLine) Refused → List Found → List Found → Type 0
@@ -120,6 +127,14 @@ SymbolBelow count (OfF at) = AreSixLabels count at.a at.b at.c at.d at.e at.f
 SymbolBelow count (OfR at) = AreThreeLabels count at.a at.b at.c
 SymbolBelow count (OfW at) = AreThreeLabels count at.a at.b at.c
 SymbolBelow count (OfV at) = AreThreeLabels count at.a at.b at.c
+SymbolBelow count (OfTwist a) = a < count
+SymbolBelow count (OfLoop a) = a < count
+
+-- what a setter of marks answers, as one of symbols would
+abbrev pub as_set_fault : Result Unit MarkFault → Result Unit SetFault
+as_set_fault (Ok done) = Ok done
+as_set_fault (Err mark.Repeated) = Err set.Repeated
+as_set_fault (Err mark.Memory) = Err set.Memory
 
 -- The names of a labels line, one after the other.
 

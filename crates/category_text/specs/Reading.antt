@@ -11,17 +11,18 @@ use Rattle.fusion_rules.specs.declared.label.TheConstants.{LABEL_LIMIT, UNIT}
 use Rattle.fusion_rules.specs.Names.{label_of, all_names, has_repeat}
 use Rattle.symbol_table.specs.Symbols.{Given}
 use Rattle.symbol_table.specs.Index.{f_index, v_index}
+use Rattle.symbol_table.specs.declared.index.FIndex.{FIndex}
 use Rattle.symbol_table.specs.declared.index.VIndex.{VIndex}
 use Rattle.symbol_table.specs.declared.draft.SetFault.{SetFault}
 use Rattle.symbol_table.specs.declared.draft.SetFault.TheVariants as set
 use Rattle.category_text.specs.declared.fault.CategoryCause.{CategoryCause}
 use Rattle.category_text.specs.declared.fault.CategoryCause.TheVariants.{Line, Header, Root, Labels, Limit, Repeated, Misplaced, Word, Short, Long, UnknownLabel, UnitFuse, NotAdmissible, Number}
 use Rattle.category_text.specs.declared.kind.Kind.{Kind}
-use Rattle.category_text.specs.declared.kind.Kind.TheVariants.{F, R, W, V}
+use Rattle.category_text.specs.declared.kind.Kind.TheVariants.{F, R, W, V, Twist, Loop}
 use Rattle.category_text.specs.declared.kind.LineKind.{LineKind}
 use Rattle.category_text.specs.declared.kind.LineKind.TheVariants.{Fusion, OfSymbol}
 use Rattle.category_text.specs.declared.kind.Symbol.{Symbol}
-use Rattle.category_text.specs.declared.kind.Symbol.TheVariants.{OfF, OfR, OfW, OfV}
+use Rattle.category_text.specs.declared.kind.Symbol.TheVariants.{OfF, OfR, OfW, OfV, OfTwist, OfLoop}
 use Rattle.category_text.specs.Named.{NamedSymbols, only_units, with_fusion, symbol_fault, with_symbol}
 
 -- a line that is refused, with its first cause
@@ -50,8 +51,14 @@ sized count words = if nat_lt (length words) count then Err Short else (if nat_l
 
 -- The first three lines.
 
-abbrev pub header_of : List (List ℕ) → Result Unit CategoryCause
-header_of words = unless ((length words == 2) && (has_word words 0 (codes "category") && has_word words 1 (codes "1"))) Header
+-- the version that a word names
+abbrev pub version_of : List ℕ → Result ℕ CategoryCause
+version_of word = if bytes_eq word (codes "1") then Ok 1 else (if bytes_eq word (codes "2") then Ok 2 else Err Header)
+
+abbrev pub header_of : List (List ℕ) → Result ℕ CategoryCause
+header_of words = do
+  _ ← unless ((length words == 2) && has_word words 0 (codes "category")) Header
+  version_of (word_in words 1)
 
 -- a plain number that is an accepted root
 abbrev pub root_at : Option ℕ → Result ℕ CategoryCause
@@ -114,23 +121,44 @@ fuse_of said words = do
 abbrev pub kind_of : List ℕ → Option Kind
 kind_of text =
     if bytes_eq text (codes "f") then Some F else (if bytes_eq text (codes "r") then Some R
-    else (if bytes_eq text (codes "w") then Some W else (if bytes_eq text (codes "v") then Some V else None)))
+    else (if bytes_eq text (codes "w") then Some W else (if bytes_eq text (codes "v") then Some V
+    else (if bytes_eq text (codes "twist") then Some Twist else (if bytes_eq text (codes "loop") then Some Loop else None)))))
 
--- the place of the number: behind six labels, or behind three
+-- whether a version has lines of a kind: those of marks stand in version 2 alone
+abbrev pub has_kind : ℕ → Kind → Bool
+has_kind version F = true
+has_kind version R = true
+has_kind version W = true
+has_kind version V = true
+has_kind version Twist = version == 2
+has_kind version Loop = version == 2
+
+abbrev pub known : ℕ → Kind → Result Unit CategoryCause
+known version kind = unless (has_kind version kind) Word
+
+-- the place of the number: behind six labels, behind three, or behind one
 abbrev pub number_place : Kind → ℕ
 number_place F = 7
 number_place R = 4
 number_place W = 4
 number_place V = 4
+number_place Twist = 2
+number_place Loop = 2
 
-abbrev pub symbol_at : Kind → List (List ℕ) → List (List ℕ) → Result Symbol CategoryCause
-symbol_at F names words = do
+-- the six labels from the second word on
+abbrev pub six_labels : List (List ℕ) → List (List ℕ) → Result FIndex CategoryCause
+six_labels names words = do
   first ← labels_at names words 1
   second ← labels_at names words 4
-  Ok (OfF (f_index first.a first.b first.c second.a second.b second.c))
+  Ok (f_index first.a first.b first.c second.a second.b second.c)
+
+abbrev pub symbol_at : Kind → List (List ℕ) → List (List ℕ) → Result Symbol CategoryCause
+symbol_at F names words = six_labels names words >>= λ at. Ok (OfF at)
 symbol_at R names words = labels_at names words 1 >>= λ at. Ok (OfR at)
 symbol_at W names words = labels_at names words 1 >>= λ at. Ok (OfW at)
 symbol_at V names words = labels_at names words 1 >>= λ at. Ok (OfV at)
+symbol_at Twist names words = label names (word_in words 1) >>= λ a. Ok (OfTwist a)
+symbol_at Loop names words = label names (word_in words 1) >>= λ a. Ok (OfLoop a)
 
 abbrev pub may_set : Option SetFault → Result Unit CategoryCause
 may_set None = Ok tt
@@ -145,9 +173,11 @@ numbered (Err fault) = Err (Number fault)
 abbrev pub with_value : NamedSymbols → Symbol → Ratio → SoFar
 with_value said at value = record { said = record said { given = with_symbol said.given at value }; has_symbols = true }
 
--- `f a b c d e f NUMBER`, `r a b c NUMBER`, `w a b c NUMBER`, `v a b c NUMBER`
+-- `f a b c d e f NUMBER`, `r a b c NUMBER`, `w a b c NUMBER`, `v a b c NUMBER`, and in version 2 `twist a NUMBER` and
+-- `loop a NUMBER`
 unfoldable pub symbol_of : Kind → NamedSymbols → List (List ℕ) → Result SoFar CategoryCause
 symbol_of kind said words = do
+  _ ← known said.given.version kind
   _ ← sized (number_place kind + 1) words
   at ← symbol_at kind said.names words
   _ ← may_set (symbol_fault said.given at)
@@ -186,18 +216,18 @@ required missing count [] = Err (record { line = count + 1; cause = missing })
 required missing count (Faulty number cause ∷ more) = Err (record { line = number; cause = Line cause })
 required missing count (Counted number text ∷ more) = Ok (number, (words_of text, more))
 
--- the root, and the line behind it
-unfoldable pub front_of : Reading → Result (ℕ × (ℕ × (List (List ℕ) × List Found))) Fault
+-- the version and the root, and the line behind them
+unfoldable pub front_of : Reading → Result ((ℕ × ℕ) × (ℕ × (List (List ℕ) × List Found))) Fault
 front_of text = do
   first ← required Header text.count text.ahead
-  _ ← on_line first.0 (header_of first.1.0)
+  version ← on_line first.0 (header_of first.1.0)
   second ← required Root text.count first.1.1
   root ← on_line second.0 (root_of second.1.0)
   third ← required Labels text.count second.1.1
-  Ok (root, third)
+  Ok ((version, root), third)
 
--- the root, the names, and what is found behind the labels
-unfoldable pub head_of : Reading → Result ((ℕ × List (List ℕ)) × List Found) Fault
+-- the version and the root, the names, and what is found behind the labels
+unfoldable pub head_of : Reading → Result (((ℕ × ℕ) × List (List ℕ)) × List Found) Fault
 head_of text = do
   front ← front_of text
   names ← on_line front.1.0 (labels_of front.1.1.0)
@@ -210,11 +240,11 @@ body_of before (Faulty number cause ∷ more) = Err (record { line = number; cau
 body_of before (Counted number text ∷ more) = on_line number (line_of before (words_of text)) >>= λ next. body_of next more
 
 -- the names alone: the unit triples, and every symbol 1
-abbrev pub begun : ℕ → List (List ℕ) → SoFar
-begun root names = record { said = record { root = root; names = names; given = only_units (length names) }; has_symbols = false }
+abbrev pub begun : ℕ → ℕ → List (List ℕ) → SoFar
+begun version root names = record { said = record { root = root; names = names; given = only_units version (length names) }; has_symbols = false }
 
 unfoldable pub category_of : List ℕ → Result NamedSymbols Fault
 category_of bytes = do
   head ← head_of (reading_of 0 bytes)
-  whole ← body_of (begun head.0.0 head.0.1) head.1
+  whole ← body_of (begun head.0.0.0 head.0.0.1 head.0.1) head.1
   Ok whole.said

@@ -8,8 +8,8 @@ use Rattle.fusion_rules.specs.declared.label.TheConstants.{UNIT}
 use Rattle.fusion_rules.specs.Names.{AreNames, name_of}
 use Rattle.symbol_table.specs.declared.index.VIndex.{VIndex}
 use Rattle.category_text.specs.declared.kind.Symbol.{Symbol}
-use Rattle.category_text.specs.declared.kind.Symbol.TheVariants.{OfF, OfR, OfW, OfV}
-use Rattle.category_text.specs.Named.{NamedSymbols, with_fusion, with_symbol, symbol_fault}
+use Rattle.category_text.specs.declared.kind.Symbol.TheVariants.{OfF, OfR, OfW, OfV, OfTwist, OfLoop}
+use Rattle.category_text.specs.Named.{IsVersion, NamedSymbols, has_symbol, with_fusion, with_symbol, symbol_fault}
 use Rattle.category_text.specs.Reading.{begun, category_of}
 use Rattle.category_text.specs.Answers.{SymbolBelow}
 use Rattle.category_text.specs.Canonical.{fuse_line, head_lines}
@@ -21,6 +21,8 @@ symbol_words names (OfF at) value =
 symbol_words names (OfR at) value = codes "r" ∷ name_of names at.a ∷ name_of names at.b ∷ name_of names at.c ∷ spelled_number value ∷ []
 symbol_words names (OfW at) value = codes "w" ∷ name_of names at.a ∷ name_of names at.b ∷ name_of names at.c ∷ spelled_number value ∷ []
 symbol_words names (OfV at) value = codes "v" ∷ name_of names at.a ∷ name_of names at.b ∷ name_of names at.c ∷ spelled_number value ∷ []
+symbol_words names (OfTwist a) value = codes "twist" ∷ name_of names a ∷ spelled_number value ∷ []
+symbol_words names (OfLoop a) value = codes "loop" ∷ name_of names a ∷ spelled_number value ∷ []
 
 -- what is said with one triple more, and with one value more
 abbrev pub fused_with : NamedSymbols → VIndex → NamedSymbols
@@ -38,7 +40,7 @@ abbrev pub set_all : NamedSymbols → List (Symbol × Ratio) → NamedSymbols
 set_all said [] = said
 set_all said (s ∷ ss) = set_all (set_with said s.0 s.1) ss
 
--- triples, none of the unit or twice; values at admissible indices, none twice
+-- triples, none of the unit or twice; values at admissible indices, none twice, and marks in version 2 alone
 abbrev pub FreshTriples : NamedSymbols → List VIndex → Type 0
 FreshTriples said [] = Unit {0}
 FreshTriples said (t ∷ ts) =
@@ -46,7 +48,8 @@ FreshTriples said (t ∷ ts) =
 
 abbrev pub FreshSymbols : NamedSymbols → List (Symbol × Ratio) → Type 0
 FreshSymbols said [] = Unit {0}
-FreshSymbols said (s ∷ ss) = SymbolBelow (length said.names) s.0 × (symbol_fault said.given s.0 ≡ None) × (number_of said.root (spelled_number s.1) ≡ Ok s.1) × FreshSymbols (set_with said s.0 s.1) ss
+FreshSymbols said (s ∷ ss) =
+    (has_symbol said.given.version s.0 ≡ true) × SymbolBelow (length said.names) s.0 × (symbol_fault said.given s.0 ≡ None) × (number_of said.root (spelled_number s.1) ≡ Ok s.1) × FreshSymbols (set_with said s.0 s.1) ss
 
 abbrev pub words_at : List (List ℕ) → Symbol × Ratio → List (List ℕ)
 words_at names s = symbol_words names s.0 s.1
@@ -56,12 +59,12 @@ abbrev pub lines_over : NamedSymbols → List VIndex → List (Symbol × Ratio) 
 lines_over said ts ss = head_lines said ++ (map (fuse_line said) ts ++ map (words_at said.names) ss)
 
 -- what is said by a head alone: the unit triples, and every symbol 1
-abbrev pub head_alone : ℕ → List (List ℕ) → NamedSymbols
-head_alone root names = (begun root names).said
+abbrev pub head_alone : ℕ → ℕ → List (List ℕ) → NamedSymbols
+head_alone version root names = (begun version root names).said
 
 -- A spelled text of plain lines, with new triples behind the head and values of new indices behind them, says exactly these.
 abbrev pub SpelledAgain : Type 0
 SpelledAgain =
-    (root : ℕ) (names : List (List ℕ)) (ts : List VIndex) (ss : List (Symbol × Ratio)) → AreNames names → 0 < length names → is_accepted root ≡ true
-    → FreshTriples (head_alone root names) ts → FreshSymbols (fused_all (head_alone root names) ts) ss → ArePlainLines (lines_over (head_alone root names) ts ss)
-    → category_of (spelled (lines_over (head_alone root names) ts ss)) ≡ Ok (set_all (fused_all (head_alone root names) ts) ss)
+    (version root : ℕ) (names : List (List ℕ)) (ts : List VIndex) (ss : List (Symbol × Ratio)) → IsVersion version → AreNames names → 0 < length names → is_accepted root ≡ true
+    → FreshTriples (head_alone version root names) ts → FreshSymbols (fused_all (head_alone version root names) ts) ss → ArePlainLines (lines_over (head_alone version root names) ts ss)
+    → category_of (spelled (lines_over (head_alone version root names) ts ss)) ≡ Ok (set_all (fused_all (head_alone version root names) ts) ss)

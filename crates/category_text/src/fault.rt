@@ -14,7 +14,7 @@ use std::alloc::AllocError;
 pub enum CategoryCause {
     /// The line is too long, or not ASCII.
     Line(LineCause),
-    /// The first line isn't `category 1`.
+    /// The first line isn't `category 1` or `category 2`.
     Header,
     /// The second line isn't `root` and an accepted root.
     Root,
@@ -22,11 +22,11 @@ pub enum CategoryCause {
     Labels,
     /// There are more than 12 names.
     Limit,
-    /// A name stands twice, or a triple or a symbol was given before.
+    /// A name stands twice, or a triple, a symbol or a mark was given before.
     Repeated,
     /// A line of the head behind the head, or a fuse line behind a symbol line.
     Misplaced,
-    /// The first word is none of `fuse`, `f`, `r`, `w`, `v`.
+    /// The first word is none of `fuse`, `f`, `r`, `w`, `v`, and in version 2 none of `twist`, `loop` either.
     Word,
     /// There are too few words.
     Short,
@@ -38,7 +38,7 @@ pub enum CategoryCause {
     UnitFuse,
     /// The index of a symbol line isn't admissible by the fuse lines.
     NotAdmissible,
-    /// The number of a symbol line is refused.
+    /// The number of a symbol line or of a mark's line is refused.
     Number(NumberWord),
 }
 

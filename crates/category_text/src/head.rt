@@ -1,6 +1,7 @@
 ghost use Rattle.std.specs.Prelude.{◌≡◌, ◌<◌, [], List, drop, length, ◌==◌, ◌&&◌, Some, None, IfOk, if◌then◌else◌};
 ghost use Rattle.line_text.specs.Text.{words_of};
-ghost use Rattle.category_text.specs.Reading.{required, header_of, root_of, root_at, labels_of, front_of, head_of};
+ghost use Rattle.category_text.specs.Named.{IsVersion};
+ghost use Rattle.category_text.specs.Reading.{required, header_of, root_of, root_at, labels_of, front_of, head_of, version_of};
 ghost use Rattle.category_text.specs.Answers.{Says, Tells, TellsLines, Told, judged_of, kept_of};
 
 use crate::fault::{CategoryCause, CategoryFault, Refused, Stop, on_line, stop_on_line};
@@ -11,28 +12,54 @@ use line_text::{Line, Lines, plain_number};
 use poly_core::ROOT_LIMIT;
 use std::alloc::Global;
 
+/// What the first three lines say.
+#[derive(Drop)]
+pub(crate) struct Head {
+    pub version: u8,
+    pub ring: Cyclo,
+    pub names: Names,
+}
+
+/// What the first two lines say, and the third.
+#[derive(Drop)]
+struct Front<'a> {
+    version: u8,
+    ring: Cyclo,
+    line: Line<'a>,
+}
+
 /// Reads the first three lines.
 #[tactic(auto, unfolding(crate::specs::Reading::head_of))]
-pub(crate) fn read_head(alloc: Global, lines: &mut Lines) -> Result<(Cyclo, Names), CategoryFault>
-    ensures head { Told (λ head. ((head.0, head.1), lines.new.ahead)) result (head_of lines.old) }
-    ensures some { IfOk result (λ head. 0 < length head.1) }
+pub(crate) fn read_head(alloc: Global, lines: &mut Lines) -> Result<Head, CategoryFault>
+    ensures head { Told (λ head. (((head.version, head.ring), head.names), lines.new.ahead)) result (head_of lines.old) }
+    ensures some { IfOk result (λ head. 0 < length head.names) }
+    ensures version { IfOk result (λ head. IsVersion head.version) }
 {
-    let (ring, line) = read_front(lines)?;
-    let names = stop_on_line(line.number, read_labels(alloc, &line))?;
-    Ok((ring, names))
+    let front = read_front(lines)?;
+    let names = stop_on_line(front.line.number, read_labels(alloc, &front.line))?;
+    Ok(Head {
+        version: front.version,
+        ring: front.ring,
+        names,
+    })
 }
 
 /// Reads the first two lines, and finds the third.
 #[tactic(auto, unfolding(crate::specs::Reading::front_of))]
-fn read_front<'a>(lines: &mut Lines<'a>) -> Result<(Cyclo, Line<'a>), Refused>
-    ensures front { TellsLines (λ front. (front.0, (front.1.number, (words_of front.1.text.now, lines.new.ahead)))) result (front_of lines.old) }
+fn read_front<'a>(lines: &mut Lines<'a>) -> Result<Front<'a>, Refused>
+    ensures front { TellsLines (λ front. ((front.version, front.ring), (front.line.number, (words_of front.line.text.now, lines.new.ahead)))) result (front_of lines.old) }
+    ensures version { IfOk result (λ front. IsVersion front.version) }
 {
     let line = required(lines, CategoryCause::Header)?;
-    on_line(line.number, read_header(&line))?;
+    let version = on_line(line.number, read_header(&line))?;
     let line = required(lines, CategoryCause::Root)?;
     let ring = on_line(line.number, read_root(&line))?;
     let line = required(lines, CategoryCause::Labels)?;
-    Ok((ring, line))
+    Ok(Front {
+        version,
+        ring,
+        line,
+    })
 }
 
 /// A line that has to come.
@@ -49,14 +76,29 @@ fn required<'a>(lines: &mut Lines<'a>, missing: CategoryCause) -> Result<Line<'a
     }
 }
 
-fn read_header(line: &Line) -> Result<(), CategoryCause>
-    ensures { result ≡ header_of (words_of line.now.text.now) }
+/// The version.
+fn read_header(line: &Line) -> Result<u8, CategoryCause>
+    ensures header { result ≡ header_of (words_of line.now.text.now) }
+    ensures version { IfOk result IsVersion }
 {
-    if has_two_words(line) && line.has_word(0, b"category") && line.has_word(1, b"1") {
-        Ok(())
-    } else {
-        Err(CategoryCause::Header)
+    if !(has_two_words(line) && line.has_word(0, b"category")) {
+        return Err(CategoryCause::Header);
     }
+    version_of(line.word_or_empty(1))
+}
+
+/// The version that a word names.
+fn version_of(word: &[u8]) -> Result<u8, CategoryCause>
+    ensures told { result ≡ version_of word.now }
+    ensures version { IfOk result IsVersion }
+{
+    if word == b"1".as_slice() {
+        return Ok(1);
+    }
+    if word == b"2".as_slice() {
+        return Ok(2);
+    }
+    Err(CategoryCause::Header)
 }
 
 fn read_root(line: &Line) -> Result<Cyclo, CategoryCause>

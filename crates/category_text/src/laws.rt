@@ -7,8 +7,8 @@ pub fn spelled_categories()
     ensures spelled_again { SpelledAgain }
 {}
 
-/// What can be said is read again from its canonical text, to the same category: the root, the names, the triples, and
-/// F, R, w and v at all labels; the text is short enough for the reader. Two that have one text are the same, and the same
+/// What can be said is read again from its canonical text, to the same category: the version, the root, the names, the
+/// triples, F, R, w and v at all labels, and the marks; the text is short enough for the reader. Two that have one text are the same, and the same
 /// has one text; so what is written of what was read from a canonical text is that text.
 ///
 /// What is read of any text can be said, so all of this holds of every text that is read: its canonical text is short

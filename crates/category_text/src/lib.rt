@@ -1,9 +1,13 @@
-//! Texts of categories: names of labels, fusion rules, and the symbols F, R, w and v over the numbers of one root.
+//! Texts of categories: names of labels, fusion rules, the symbols F, R, w and v over the numbers of one root, and in
+//! version 2 the marks of labels, their twists and loop values.
 //!
 //! Glossary:
-//! - *head*: the lines `category 1`, `root N` and `labels` with the names, the unit first (`specs/Reading.antt`).
+//! - *head*: the lines `category 1` or `category 2`, `root N` and `labels` with the names, the unit first
+//!   (`specs/Reading.antt`).
 //! - *fuse line*: one triple of labels; the unit triples are there without lines (`specs/Reading.antt`).
 //! - *symbol line*: the value of one symbol at an admissible index; a symbol without a line is 1 (`specs/Reading.antt`).
+//! - *mark*: the twist or the loop value of a label; its line is a symbol line of version 2, and a mark without a line
+//!   is 1 (`specs/Reading.antt`, `has_kind`).
 //! - *line kind*: what a line behind the head gives by its first word; fuse lines stand before all symbol lines
 //!   (`specs/Reading.antt`, `line_kind`).
 //! - *named symbols*: the root, the names, the triples and the values that were set, as contracts see what a text says
@@ -15,7 +19,7 @@
 //!   (`specs/Spelled.antt`).
 //! - *what can be said*: what every value of the code's type is: names, labels, triples and numbers that go together
 //!   (`specs/Again.antt`, `IsSaid`).
-//! - *same category*: the same root, names and triples, and the same symbols at all labels (`specs/Again.antt`,
+//! - *same category*: the same version, root, names and triples, and the same symbols at all labels (`specs/Again.antt`,
 //!   `SameSymbols`).
 #![tactic(auto)]
 

@@ -100,8 +100,8 @@ fn is_head_word(word: &[u8]) -> bool
 #[tactic(auto, unfolding(crate::specs::Reading::fuse_of))]
 fn read_triple(names: &Names, line: &Line, rules: &mut Rules) -> Result<(), CategoryCause>
     requires { length names.now ≡ rules.old.count }
-    ensures said { (ring : ℕ) → Tells (λ _. fusing ring names.now rules.new) result
-        (fuse_of (fusing ring names.now rules.old).said (words_of line.now.text.now)) }
+    ensures said { (version ring : ℕ) → Tells (λ _. fusing version ring names.now rules.new) result
+        (fuse_of (fusing version ring names.now rules.old).said (words_of line.now.text.now)) }
     ensures count { rules.new.count ≡ rules.old.count }
 {
     sized(line, 4)?;

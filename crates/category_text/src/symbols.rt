@@ -1,12 +1,13 @@
-ghost use Rattle.std.specs.Prelude.{◌≡◌, ◌<◌, ◌≤◌, ◌+◌, ℕ, length, None, Err, IfOk, IsOk, IsTrue, OnOk};
+ghost use Rattle.std.specs.Prelude.{◌≡◌, ◌<◌, ◌≤◌, ◌+◌, ℕ, if◌then◌else◌, length, None, Some, Err, IfOk, IsOk, IsTrue, OnOk};
 ghost use Rattle.line_text.specs.Text.{words_of};
 ghost use Rattle.cyclo_core.specs.Ratio.{ring_at};
 ghost use Rattle.cyclo_text.specs.NumberWords.{number_of};
-ghost use Rattle.symbol_table.specs.Index.{AreThreeLabels};
+ghost use Rattle.symbol_table.specs.Index.{AreSixLabels, AreThreeLabels};
+ghost use Rattle.symbol_table.specs.declared.draft.SetFault.TheVariants.{Repeated};
 ghost use Rattle.symbol_table.specs.Draft.{Sets, given};
-ghost use Rattle.category_text.specs.Named.{named_draft, symbol_fault, with_symbol};
-ghost use Rattle.category_text.specs.Reading.{label, labels_at, kind_of, may_set, number_place, numbered, symbol_at, symbol_of, with_value};
-ghost use Rattle.category_text.specs.Answers.{Says, SymbolBelow, Tells, setting};
+ghost use Rattle.category_text.specs.Named.{has_symbol, named_draft, symbol_fault, with_symbol};
+ghost use Rattle.category_text.specs.Reading.{known, label, labels_at, kind_of, may_set, number_place, numbered, six_labels, symbol_at, symbol_of, with_value};
+ghost use Rattle.category_text.specs.Answers.{as_set_fault, Says, SymbolBelow, Tells, setting};
 
 use crate::fault::{CategoryCause, Stop};
 use crate::kind::{Kind, Symbol};
@@ -16,7 +17,7 @@ use cyclo_text::read_number;
 use fusion_rules::Names;
 use line_text::Line;
 use std::alloc::AllocError;
-use symbol_table::{Draft, FIndex, SetFault, VIndex};
+use symbol_table::{Draft, FIndex, MarkFault, SetFault, VIndex};
 
 /// The kind that a line's first word names.
 pub(crate) fn kind_of(word: &[u8]) -> Option<Kind>
@@ -33,6 +34,12 @@ pub(crate) fn kind_of(word: &[u8]) -> Option<Kind>
     }
     if word == b"v".as_slice() {
         return Some(Kind::V);
+    }
+    if word == b"twist".as_slice() {
+        return Some(Kind::Twist);
+    }
+    if word == b"loop".as_slice() {
+        return Some(Kind::Loop);
     }
     None
 }
@@ -67,13 +74,25 @@ fn read_value(
     ensures below { IfOk result (λ read. SymbolBelow draft.now.rules.count read.0) }
     ensures free { IfOk result (λ read. symbol_fault (given draft.now) read.0 ≡ None) }
     ensures member { IfOk result (λ read. IsTrue ((ring_at draft.now.ring).member read.1)) }
+    ensures version { IfOk result (λ read. IsTrue (has_symbol draft.now.version read.0)) }
 {
+    known(draft.version(), kind)?;
     let place = number_place(kind);
     sized(line, place + 1)?;
     let at = symbol_at(names, line, kind)?;
     may_set(draft, &at)?;
     let value = number(draft.ring(), line.word_or_empty(place))?;
     Ok((at, value))
+}
+
+/// Whether a version has lines of a kind: those of marks stand in version 2 alone.
+fn known(version: u8, kind: Kind) -> Result<(), CategoryCause>
+    ensures { result ≡ known version kind }
+{
+    match kind {
+        Kind::Twist | Kind::Loop if version != 2 => Err(CategoryCause::Word),
+        _ => Ok(()),
+    }
 }
 
 /// Whether a symbol of labels below the count may be set.
@@ -97,7 +116,16 @@ fn fault_of(draft: &Draft<Cyclo>, at: &Symbol) -> Option<SetFault>
         Symbol::OfR(at) => draft.r_fault(at),
         Symbol::OfW(at) => draft.w_fault(at),
         Symbol::OfV(at) => draft.v_fault(at),
+        Symbol::OfTwist(a) => repeated(draft.has_twist(*a)),
+        Symbol::OfLoop(a) => repeated(draft.has_loop(*a)),
     }
+}
+
+/// Why a mark isn't set.
+fn repeated(is_set: bool) -> Option<SetFault>
+    ensures { result ≡ (if is_set then Some Repeated else None) }
+{
+    if is_set { Some(SetFault::Repeated) } else { None }
 }
 
 fn number(ring: &Cyclo, word: &[u8]) -> Result<Number, CategoryCause>
@@ -119,6 +147,8 @@ fn number_place(kind: Kind) -> usize
         Kind::R => 4,
         Kind::W => 4,
         Kind::V => 4,
+        Kind::Twist => 2,
+        Kind::Loop => 2,
     }
 }
 
@@ -126,23 +156,31 @@ fn symbol_at(names: &Names, line: &Line, kind: Kind) -> Result<Symbol, CategoryC
     ensures symbol { result ≡ symbol_at kind names.now (words_of line.now.text.now) }
     ensures below { IfOk result (SymbolBelow (length names.now)) }
 {
-    let first = labels_at(names, line, 1)?;
     match kind {
-        Kind::F => {
-            let second = labels_at(names, line, 4)?;
-            Ok(Symbol::OfF(FIndex {
-                a: first.a,
-                b: first.b,
-                c: first.c,
-                d: second.a,
-                e: second.b,
-                f: second.c,
-            }))
-        }
-        Kind::R => Ok(Symbol::OfR(first)),
-        Kind::W => Ok(Symbol::OfW(first)),
-        Kind::V => Ok(Symbol::OfV(first)),
+        Kind::F => Ok(Symbol::OfF(six_labels(names, line)?)),
+        Kind::R => Ok(Symbol::OfR(labels_at(names, line, 1)?)),
+        Kind::W => Ok(Symbol::OfW(labels_at(names, line, 1)?)),
+        Kind::V => Ok(Symbol::OfV(labels_at(names, line, 1)?)),
+        Kind::Twist => Ok(Symbol::OfTwist(label(names, line.word_or_empty(1))?)),
+        Kind::Loop => Ok(Symbol::OfLoop(label(names, line.word_or_empty(1))?)),
     }
+}
+
+/// The six labels from the second word on.
+fn six_labels(names: &Names, line: &Line) -> Result<FIndex, CategoryCause>
+    ensures labels { result ≡ six_labels names.now (words_of line.now.text.now) }
+    ensures below { IfOk result (λ at. AreSixLabels (length names.now) at.a at.b at.c at.d at.e at.f) }
+{
+    let first = labels_at(names, line, 1)?;
+    let second = labels_at(names, line, 4)?;
+    Ok(FIndex {
+        a: first.a,
+        b: first.b,
+        c: first.c,
+        d: second.a,
+        e: second.b,
+        f: second.c,
+    })
 }
 
 /// The three labels from a place on.
@@ -167,6 +205,7 @@ fn label(names: &Names, word: &[u8]) -> Result<u8, CategoryCause>
 
 /// Sets a symbol that may be set.
 fn set_symbol(draft: &mut Draft<Cyclo>, at: Symbol, value: Number) -> Result<(), AllocError>
+    requires version { IsTrue (has_symbol draft.old.version at) }
     requires labels { SymbolBelow draft.old.rules.count at }
     requires member { IsTrue ((ring_at draft.old.ring).member value) }
     requires free { symbol_fault (given draft.old) at ≡ None }
@@ -182,6 +221,7 @@ fn set_symbol(draft: &mut Draft<Cyclo>, at: Symbol, value: Number) -> Result<(),
 
 /// Sets a symbol by the setter of its kind.
 fn set_value(draft: &mut Draft<Cyclo>, at: Symbol, value: Number) -> Result<(), SetFault>
+    requires version { IsTrue (has_symbol draft.old.version at) }
     requires labels { SymbolBelow draft.old.rules.count at }
     requires member { IsTrue ((ring_at draft.old.ring).member value) }
     ensures set { Sets result (symbol_fault (given draft.old) at) (given draft.old) (given draft.new) (with_symbol (given draft.old) at value) }
@@ -193,5 +233,18 @@ fn set_value(draft: &mut Draft<Cyclo>, at: Symbol, value: Number) -> Result<(), 
         Symbol::OfR(at) => draft.set_r(at, value),
         Symbol::OfW(at) => draft.set_w(at, value),
         Symbol::OfV(at) => draft.set_v(at, value),
+        Symbol::OfTwist(a) => as_set_fault(draft.set_twist(a, value)),
+        Symbol::OfLoop(a) => as_set_fault(draft.set_loop(a, value)),
+    }
+}
+
+/// What a setter of marks answers, as one of symbols would.
+fn as_set_fault(set: Result<(), MarkFault>) -> Result<(), SetFault>
+    ensures { result ≡ as_set_fault set }
+{
+    match set {
+        Ok(()) => Ok(()),
+        Err(MarkFault::Repeated) => Err(SetFault::Repeated),
+        Err(MarkFault::Memory) => Err(SetFault::Memory),
     }
 }

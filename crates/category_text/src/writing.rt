@@ -6,13 +6,14 @@ ghost use Rattle.cyclo_core.specs.Ratio.{is_held, ring_at};
 ghost use Rattle.cyclo_text.specs.NumberWords.{spelled_number};
 ghost use Rattle.fusion_rules.specs.Fusion.{AreRules, fuses};
 ghost use Rattle.fusion_rules.specs.Names.{AreNames, name_of};
+ghost use Rattle.symbol_table.specs.Draft.{IsVersioned};
 ghost use Rattle.symbol_table.specs.Index.{AreSixLabels, AreThreeLabels};
 ghost use Rattle.category_text.specs.Named.{seen};
-ghost use Rattle.category_text.specs.Canonical.{behind, canonical, f_words, head_lines, is_one, kind_word, vertex_value};
+ghost use Rattle.category_text.specs.Canonical.{behind, canonical, f_words, head_lines, is_one, kind_word, mark_value, mark_word, version_word, vertex_value};
 ghost use Rattle.category_text.specs.Again.{IsSaid, ReadAgain};
-ghost use Rattle.category_text.specs.Writing.{BehindNumber, FNumber, GroupBelow, GroupNumber, InPlane, InRow, InSpace, VertexNumber, behind_text, f_text, fuse_text, group_text, plane, row, space, vertex_text, written};
+ghost use Rattle.category_text.specs.Writing.{AllMarkNumbers, BehindNumber, FNumber, GroupBelow, GroupNumber, InPlane, InRow, InSpace, MarkNumber, MarkNumbers, VertexNumber, VertexNumbers, all_marks_text, behind_text, f_text, fuse_text, group_text, mark_text, marks_text, plane, row, space, vertex_text, vertices_text, written};
 
-use crate::kind::{Group, VertexKind};
+use crate::kind::{Group, MarkKind, VertexKind};
 use crate::named::Named;
 use cyclo_core::{Cyclo, Number};
 use cyclo_text::write_number;
@@ -22,9 +23,10 @@ use ring_laws::StarRing;
 use std::alloc::{AllocError, Global};
 use symbol_table::{FIndex, VIndex};
 
-/// Appends the canonical text of a category: the lines `category 1`, `root N` and `labels` with the names, all
-/// triples whose first two labels aren't the unit, and the values of F, R, w and v that aren't 1 at their admissible
-/// indices. Each of these five groups stands in the order of its label numbers.
+/// Appends the canonical text of a category: the lines `category V` with the version, `root N` and `labels` with the
+/// names, all triples whose first two labels aren't the unit, the values of F, R, w and v that aren't 1 at their
+/// admissible indices, and the twists and loop values that aren't 1, which version 2 alone has. Each of these groups
+/// stands in the order of its label numbers.
 ///
 /// Asks for as many names as the rules have labels. What is written is read again, to the same category, and is short
 /// enough for the reader. Only want of memory refuses it, and `out` is then unchanged.
@@ -51,9 +53,75 @@ fn write_lines(alloc: Global, named: &Named, text: &mut Vec<u8>) -> Result<(), A
     write_head(named, text)?;
     write_group(alloc, named, Group::Fusions, text)?;
     write_f_groups(alloc, named, text)?;
+    write_vertices(alloc, named, text)?;
+    write_all_marks(alloc, named, text)?;
+    Ok(())
+}
+
+/// Appends the lines of R, w and v.
+#[tactic(auto, using(line_text::proofs::WritingLemmas::still_in_front, line_text::proofs::WritingLemmas::in_front))]
+fn write_vertices(alloc: Global, named: &Named, text: &mut Vec<u8>) -> Result<(), AllocError>
+    requires { length named.now.names ≡ named.now.draft.rules.count }
+    ensures text { Extends result text.old.items text.new.items (vertices_text (seen named.now)) }
+    ensures numbers { OnOk result (VertexNumbers (seen named.now)) }
+{
     write_group(alloc, named, Group::Vertices(VertexKind::OnR), text)?;
     write_group(alloc, named, Group::Vertices(VertexKind::OnW), text)?;
     write_group(alloc, named, Group::Vertices(VertexKind::OnV), text)?;
+    Ok(())
+}
+
+/// Appends the lines of twists and of loop values.
+#[tactic(auto, using(line_text::proofs::WritingLemmas::still_in_front, line_text::proofs::WritingLemmas::in_front))]
+fn write_all_marks(alloc: Global, named: &Named, text: &mut Vec<u8>) -> Result<(), AllocError>
+    requires { length named.now.names ≡ named.now.draft.rules.count }
+    ensures text { Extends result text.old.items text.new.items (all_marks_text (seen named.now)) }
+    ensures numbers { OnOk result (AllMarkNumbers (seen named.now)) }
+{
+    write_marks(alloc, named, MarkKind::OnTwist, text)?;
+    write_marks(alloc, named, MarkKind::OnLoop, text)?;
+    Ok(())
+}
+
+/// Appends the lines of the marks of a kind, for all labels.
+#[tactic(auto, using(line_text::proofs::WritingLemmas::still_in_front, line_text::proofs::WritingLemmas::in_front))]
+fn write_marks(
+    alloc: Global,
+    named: &Named,
+    kind: MarkKind,
+    text: &mut Vec<u8>,
+) -> Result<(), AllocError>
+    requires names { length named.now.names ≡ named.now.draft.rules.count }
+    ensures text { Extends result text.old.items text.new.items (marks_text (seen named.now) kind) }
+    ensures numbers { OnOk result (MarkNumbers (seen named.now) kind) }
+{
+    for a in 0..named.names.count() {
+        write_mark(alloc, named, kind, a, text)?;
+    }
+    Ok(())
+}
+
+/// Appends the line of a mark of a label, where it isn't 1.
+#[tactic(auto, using(line_text::proofs::WritingLemmas::still_in_front, line_text::proofs::WritingLemmas::in_front))]
+fn write_mark(
+    alloc: Global,
+    named: &Named,
+    kind: MarkKind,
+    a: u8,
+    text: &mut Vec<u8>,
+) -> Result<(), AllocError>
+    requires names { length named.now.names ≡ named.now.draft.rules.count }
+    requires label { a < named.now.draft.rules.count }
+    ensures text { Extends result text.old.items text.new.items (mark_text (seen named.now) kind a) }
+    ensures number { OnOk result (MarkNumber (seen named.now) kind a) }
+{
+    let value = mark_value(named, kind, a);
+    if is_one(named.draft.ring(), &value) {
+        return Ok(());
+    }
+    text.extend_from_slice(mark_word(kind))?;
+    write_word(named.names.name(a), text)?;
+    write_value(alloc, &value, text)?;
     Ok(())
 }
 
@@ -63,8 +131,9 @@ fn write_head(named: &Named, text: &mut Vec<u8>) -> Result<(), AllocError>
     ensures text { Extends result text.old.items text.new.items (spelled (head_lines (seen named.now))) }
     ensures names { OnOk result (AreNames named.now.names) }
     ensures accepted { OnOk result (IsTrue (is_accepted named.now.draft.ring)) }
+    ensures versioned { IsVersioned named.now.draft.version named.now.draft.set_twist named.now.draft.set_loop }
 {
-    write_line(&["category", "1"], text)?;
+    write_line(&["category", version_word(named.draft.version())], text)?;
     text.extend_from_slice(b"root")?;
     write_plain_number(u32::from(named.draft.ring().root()), text)?;
     end_line(text)?;
@@ -320,6 +389,34 @@ fn write_f_line(
     write_labels(names, last, text)?;
     write_value(alloc, value, text)?;
     Ok(())
+}
+
+fn version_word(version: u8) -> &'static str
+    ensures { result.now ≡ version_word version }
+{
+    if version == 2 { "2" } else { "1" }
+}
+
+fn mark_word(kind: MarkKind) -> &'static [u8]
+    ensures { result.now ≡ mark_word kind }
+{
+    match kind {
+        MarkKind::OnTwist => b"twist",
+        MarkKind::OnLoop => b"loop",
+    }
+}
+
+/// A mark of a label.
+fn mark_value(named: &Named, kind: MarkKind, a: u8) -> Number
+    requires { a < named.now.draft.rules.count }
+    ensures value { result ≡ mark_value (seen named.now) kind a }
+    ensures member { IsTrue ((ring_at named.now.draft.ring).member result) }
+    ensures held { IsTrue (is_held result) }
+{
+    match kind {
+        MarkKind::OnTwist => named.draft.twist(a),
+        MarkKind::OnLoop => named.draft.loop_value(a),
+    }
 }
 
 fn kind_word(kind: VertexKind) -> &'static [u8]

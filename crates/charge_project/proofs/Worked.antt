@@ -54,6 +54,8 @@ apart_given = record {
   set_r = λ a b c. None;
   set_w = λ a b c. Some (whole (1 + a + 3 * b + 9 * c));
   set_v = λ a b c. None;
+  set_twist = λ a. None;
+  set_loop = λ a. None;
 }
 
 abbrev apart_over : Ring Whole5 → Symbols Whole5

@@ -1,5 +1,5 @@
 -- Symbols with a number of its own at each index, for worked values.
-use Rattle.std.specs.Prelude.{◌+◌, ◌*◌, true, pos, Some}
+use Rattle.std.specs.Prelude.{◌+◌, ◌*◌, true, pos, Some, None}
 use Rattle.symbol_table.specs.Symbols.{Given, Symbols, symbols_of}
 use Rattle.symbol_table.proofs.Fib.{Whole5, num, ring5, held5}
 
@@ -14,6 +14,8 @@ distinct_given = record {
   set_r = λ a b c. Some (num (pos (a + 3 * b + 5 * c)) (pos 2) (pos 0) (pos 0));
   set_w = λ a b c. Some (num (pos (a + 2 * b + 5 * c)) (pos 3) (pos 0) (pos 0));
   set_v = λ a b c. Some (num (pos (a + 4 * b + 2 * c)) (pos 5) (pos 0) (pos 0));
+  set_twist = λ a. None;
+  set_loop = λ a. None;
 }
 
 abbrev pub distinct : Symbols Whole5

@@ -21,7 +21,7 @@ too_large law index = Some (record { kind = Overflow; law = law; index = index }
 
 -- no symbol is set
 abbrev plain : DraftValue ℕ ℤ
-plain = record { version = 1; ring = 0; rules = fib; set_f = []; set_r = []; set_w = []; set_v = [] }
+plain = record { version = 1; ring = 0; rules = fib; set_f = []; set_r = []; set_w = []; set_v = []; set_twist = []; set_loop = [] }
 
 pub no_event : derive_event whole_ring plain ≡ None
 no_event = refl

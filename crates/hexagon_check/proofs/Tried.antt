@@ -19,6 +19,8 @@ numbered = symbols_of whole_ring whole_held (record {
   set_r = λ a b c. Some (pos (2000 + 100 * a + 10 * b + c));
   set_w = λ a b c. Some (pos (3000 + 100 * a + 10 * b + c));
   set_v = λ a b c. Some (pos (4000 + 100 * a + 10 * b + c));
+  set_twist = λ a. None;
+  set_loop = λ a. None;
 })
 
 -- R(0,1,4) F(1,0,2,3;4,5) R(0,2,5) = 2014 · 1102345 · 2025
@@ -43,6 +45,8 @@ with_two rules exchange weight = symbols_of whole_ring whole_held (record {
   set_r = λ a b c. if a == 1 && (b == 1 && c == 0) then Some exchange else None;
   set_w = λ a b c. if a == 1 && (b == 1 && c == 0) then Some weight else None;
   set_v = λ a b c. None;
+  set_twist = λ a. None;
+  set_loop = λ a. None;
 })
 
 -- the group of order two

@@ -3,17 +3,17 @@ use Rattle.std.proofs.Common.{◌≡◌, ℕ, Bool, true, false, ◌&&◌, ◌||
 use Rattle.std.specs.Prelude.{if◌then◌else◌, IsTrue, slice_index}
 use Rattle.ring_laws.specs.Ring.{Ring, Held, RingLaws}
 use Rattle.ring_laws.specs.Sums.{total}
-use Rattle.ring_laws.specs.Stated.{product_at, product3_at, conjugate_at, add_product_at, add_product3_at}
+use Rattle.ring_laws.specs.Stated.{product_at, product3_at, sum_at, conjugate_at, add_product_at, add_product3_at}
 use Rattle.fusion_rules.specs.Check.{dual_of}
 use Rattle.symbol_table.specs.Symbols.{Symbols, Given, IsOfRing, symbols_of}
 use Rattle.symbol_table.specs.Evaluated.{h_stated, s_stated}
-use Rattle.symbol_table.specs.Laws.{Equation, Same, Free, at1, at3, at6, at9, identity_at, rigid_says, real_w_says, inverse_w_says, unit_f_says, unit_says, norm_r_says, inverse_f_says, inverse_h_says, pentagon_says, hexagon_says}
+use Rattle.symbol_table.specs.Laws.{Equation, Same, Free, at1, at2, at3, at6, at9, identity_at, rigid_says, real_w_says, inverse_w_says, unit_f_says, unit_says, norm_r_says, inverse_f_says, inverse_h_says, pentagon_says, hexagon_says, unit_mark_says, twist_says, loop_sum_says, loop_f_says}
 use Rattle.symbol_table.specs.declared.law.Law.{Law}
 use Rattle.symbol_table.specs.declared.law.Kind.{Kind}
-use Rattle.symbol_table.specs.declared.law.Law.TheVariants.{UnitF, UnitR, UnitW, RealW, InverseW, NormR, DeriveH, DeriveS, InverseF, InverseH, Rigid, Pentagon, HexagonOne, HexagonTwo}
-use Rattle.law_events.specs.Sides.{judged, evaluated, rigid, real_w, inverse_w, unit_f, unit_vertex, norm_r, norm_r_left, inverse_f, inverse_h, inverse_f_left, inverse_f_step, inverse_h_left, inverse_h_step, pentagon, pentagon_left, pentagon_right, pentagon_step, hexagon, hexagon_left, hexagon_right, hexagon_step}
+use Rattle.symbol_table.specs.declared.law.Law.TheVariants.{UnitF, UnitR, UnitW, RealW, InverseW, NormR, DeriveH, DeriveS, InverseF, InverseH, Rigid, Pentagon, HexagonOne, HexagonTwo, UnitTwist, Twist, UnitLoop, LoopSum, LoopF}
+use Rattle.law_events.specs.Sides.{judged, evaluated, rigid, real_w, inverse_w, unit_f, unit_vertex, norm_r, norm_r_left, inverse_f, inverse_h, inverse_f_left, inverse_f_step, inverse_h_left, inverse_h_step, pentagon, pentagon_left, pentagon_right, pentagon_step, hexagon, hexagon_left, hexagon_right, hexagon_step, unit_mark, product4_at, twist, twist_left, loop_sum, loop_sum_right, loop_sum_step, loop_f, loop_f_left}
 use Rattle.law_events.proofs.Right.{IsRight, JudgesRight, same_right, where_right, free_right, not_zero_right}
-use Rattle.law_events.proofs.Values.{Evaluates, given_is, then_is, product_is, conjugate_is, product3_is, add_product_is, add_product3_is, step_is, steps_are}
+use Rattle.law_events.proofs.Values.{Evaluates, given_is, then_is, product_is, sum_is, conjugate_is, product3_is, add_product_is, add_product3_is, step_is, steps_are}
 use Rattle.law_events.proofs.Zeros.{one_of_three, f_zero_second, f_zero_third, f_zero_fourth, left_gone, right_gone, first_gone, second_gone, third_gone}
 
 -- a factor that is 0 where two of its vertices don't fuse
@@ -159,9 +159,47 @@ module _ {E : Type 0} (ring : Ring E) (held : Held E) (laws : RingLaws ring held
         same_right ring held laws Are (hexagon_left c exchange a b k d e f) (hexagon_right c exchange a b k d e f) (times (times (exchange a b e) (c.f b a k d e f)) (exchange a k f))
         (total ring g.count hexagon_term) (product3_is ring (exchange a b e) (c.f b a k d e f) (exchange a k f)) hexagon_right_is
 
+  unit_mark_right : (mark : ℕ → E) (a : ℕ) → IsRight ring Are (unit_mark c mark a) (unit_mark_says c mark a)
+  unit_mark_right mark a =
+      where_right ring held laws Are (a == 0) (judged held (Some (mark a)) (Some ring.one)) (Same (mark a) ring.one)
+      (same_right ring held laws Are (Some (mark a)) (Some ring.one) (mark a) ring.one (given_is (mark a)) (given_is ring.one))
+
+  product4_is : (x y z u : E) → Evaluates (product4_at ring x y z u) (times (times (times x y) z) u)
+  product4_is x y z u =
+      then_is (product3_at ring x y z) (λ three. product_at ring three u) (times (times x y) z) (times (times (times x y) z) u) (product3_is ring x y z)
+      (product_is ring (times (times x y) z) u)
+
+  twist_right : (a b k : ℕ) → IsRight ring Are (twist c a b k) (twist_says c a b k)
+  twist_right a b k =
+      same_right ring held laws Are (twist_left c a b k) (Some (c.twist k)) (times (times (times (c.r a b k) (c.r b a k)) (c.twist a)) (c.twist b)) (c.twist k)
+      (product4_is (c.r a b k) (c.r b a k) (c.twist a) (c.twist b)) (given_is (c.twist k))
+
+  -- a term of a sum that is added, or isn't there
+  added : (goes : Bool) (s x : E) → IsTrue (ring.member s) → Evaluates (if goes then sum_at ring s x else Some s) (ring.sum s (if goes then x else ring.zero))
+  added true s x is = sum_is ring s x
+  added false s x is = λ v e. given_is s v e ∙ sym (laws.sum-zero s is)
+
+  loop_sum_is : (a b : ℕ) → Evaluates (loop_sum_right c a b) (total ring g.count (λ k. if g.fuse a b k then c.loop_value k else ring.zero))
+  loop_sum_is a b =
+      steps_are ring held laws (loop_sum_step c a b) (λ k. if g.fuse a b k then c.loop_value k else ring.zero) (λ k s is. added (g.fuse a b k) s (c.loop_value k) is) g.count
+
+  loop_sum_is_right : (a b : ℕ) → IsRight ring Are (loop_sum c a b) (loop_sum_says c a b)
+  loop_sum_is_right a b =
+      same_right ring held laws Are (product_at ring (c.loop_value a) (c.loop_value b)) (loop_sum_right c a b) (times (c.loop_value a) (c.loop_value b))
+      (total ring g.count (λ k. if g.fuse a b k then c.loop_value k else ring.zero)) (product_is ring (c.loop_value a) (c.loop_value b)) (loop_sum_is a b)
+
+  loop_f_right : (a : ℕ) → IsRight ring Are (loop_f c a) (loop_f_says c a)
+  loop_f_right a =
+      let dual = dual_of c.count c.fuse a in
+      same_right ring held laws Are (loop_f_left c a) (Some ring.one) (times (times (times (c.loop_value a) (c.loop_value a)) (c.f a dual a a 0 0)) (c.h a dual a a 0 0)) ring.one
+      (product4_is (c.loop_value a) (c.loop_value a) (c.f a dual a a 0 0) (c.h a dual a a 0 0)) (given_is ring.one)
+
   -- what is right at all labels is right at those of an index
   on1 : (v : ℕ → Option Kind) (e : ℕ → Equation E) → ((a : ℕ) → IsRight ring Are (v a) (e a)) → (i : List ℕ) → IsRight ring Are (at1 v i) (at1 e i)
   on1 v e right i = right (slice_index i 0)
+
+  on2 : (v : ℕ → ℕ → Option Kind) (e : ℕ → ℕ → Equation E) → ((a b : ℕ) → IsRight ring Are (v a b) (e a b)) → (i : List ℕ) → IsRight ring Are (at2 v i) (at2 e i)
+  on2 v e right i = right (slice_index i 0) (slice_index i 1)
 
   on3 : (v : ℕ → ℕ → ℕ → Option Kind) (e : ℕ → ℕ → ℕ → Equation E) → ((a b k : ℕ) → IsRight ring Are (v a b k) (e a b k)) → (i : List ℕ) → IsRight ring Are (at3 v i) (at3 e i)
   on3 v e right i = right (slice_index i 0) (slice_index i 1) (slice_index i 2)
@@ -189,3 +227,8 @@ module _ {E : Type 0} (ring : Ring E) (held : Held E) (laws : RingLaws ring held
   judges_right Pentagon = on9 (pentagon c) (pentagon_says c) pentagon_is_right
   judges_right HexagonOne = on6 (hexagon c c.r) (hexagon_says c c.r) (hexagon_is_right c.r)
   judges_right HexagonTwo = on6 (hexagon c c.s) (hexagon_says c c.s) (hexagon_is_right c.s)
+  judges_right UnitTwist = on1 (unit_mark c c.twist) (unit_mark_says c c.twist) (unit_mark_right c.twist)
+  judges_right Twist = on3 (twist c) (twist_says c) twist_right
+  judges_right UnitLoop = on1 (unit_mark c c.loop_value) (unit_mark_says c c.loop_value) (unit_mark_right c.loop_value)
+  judges_right LoopSum = on2 (loop_sum c) (loop_sum_says c) loop_sum_is_right
+  judges_right LoopF = on1 (loop_f c) (loop_f_says c) loop_f_right

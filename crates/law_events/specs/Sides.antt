@@ -4,14 +4,14 @@
 -- admissible; a conjugate is formed where it stands; the left side comes before the right one.
 use Rattle.std.specs.Prelude.{ℕ, ◌&&◌, ◌||◌, ◌==◌, List, [], ◌∷◌, Option, Some, None, if◌then◌else◌}
 use Rattle.std.specs.Option.{option_or}
-use Rattle.ring_laws.specs.Ring.{Held}
-use Rattle.ring_laws.specs.Stated.{◌>>=◌, product_at, product3_at, conjugate_at, add_product_at, add_product3_at, steps}
+use Rattle.ring_laws.specs.Ring.{Ring, Held}
+use Rattle.ring_laws.specs.Stated.{◌>>=◌, product_at, product3_at, sum_at, conjugate_at, add_product_at, add_product3_at, steps}
 use Rattle.fusion_rules.specs.Check.{dual_of}
 use Rattle.symbol_table.specs.Symbols.{Symbols}
 use Rattle.symbol_table.specs.Evaluated.{h_stated, s_stated}
-use Rattle.symbol_table.specs.Laws.{at1, at3, at6, at9, identity_at, laws_of}
+use Rattle.symbol_table.specs.Laws.{at1, at2, at3, at6, at9, identity_at, laws_of}
 use Rattle.symbol_table.specs.declared.law.Law.{Law}
-use Rattle.symbol_table.specs.declared.law.Law.TheVariants.{UnitF, UnitR, UnitW, RealW, InverseW, NormR, DeriveH, DeriveS, InverseF, InverseH, Rigid, Pentagon, HexagonOne, HexagonTwo}
+use Rattle.symbol_table.specs.declared.law.Law.TheVariants.{UnitF, UnitR, UnitW, RealW, InverseW, NormR, DeriveH, DeriveS, InverseF, InverseH, Rigid, Pentagon, HexagonOne, HexagonTwo, UnitTwist, Twist, UnitLoop, LoopSum, LoopF}
 use Rattle.symbol_table.specs.declared.law.Kind.{Kind}
 use Rattle.symbol_table.specs.declared.law.Kind.TheVariants.{Fails, Overflow}
 use Rattle.symbol_table.specs.declared.law.Event.{Event}
@@ -27,6 +27,10 @@ judged held (Some x) (Some y) = if held.equal x y then None else Some Fails
 abbrev pub evaluated : {E : Type 0} → Option E → Option Kind
 evaluated None = Some Overflow
 evaluated (Some x) = None
+
+-- the product of four, from the left
+abbrev pub product4_at : {E : Type 0} → Ring E → E → E → E → E → Option E
+product4_at ring x y z u = product3_at ring x y z >>= λ three. product_at ring three u
 
 module _ {E : Type 0} (c : Symbols E) where
   -- F at an index with a unit is 1
@@ -114,6 +118,36 @@ module _ {E : Type 0} (c : Symbols E) where
   abbrev pub hexagon : (ℕ → ℕ → ℕ → E) → ℕ → ℕ → ℕ → ℕ → ℕ → ℕ → Option Kind
   hexagon exchange a b k d e f = judged c.held (hexagon_left exchange a b k d e f) (hexagon_right exchange a b k d e f)
 
+  -- the twist or the loop value of the unit is 1
+  abbrev pub unit_mark : (ℕ → E) → ℕ → Option Kind
+  unit_mark mark a = if a == 0 then judged c.held (Some (mark a)) (Some c.ring.one) else None
+
+  -- R(a,b,c) R(b,a,c) theta_a theta_b
+  abbrev pub twist_left : ℕ → ℕ → ℕ → Option E
+  twist_left a b k = product4_at c.ring (c.r a b k) (c.r b a k) (c.twist a) (c.twist b)
+
+  abbrev pub twist : ℕ → ℕ → ℕ → Option Kind
+  twist a b k = judged c.held (twist_left a b k) (Some (c.twist k))
+
+  -- the term d_c of a sum over c
+  abbrev pub loop_sum_step : ℕ → ℕ → ℕ → E → Option E
+  loop_sum_step a b k sum = if c.fuse a b k then sum_at c.ring sum (c.loop_value k) else Some sum
+
+  abbrev pub loop_sum_right : ℕ → ℕ → Option E
+  loop_sum_right a b = steps (loop_sum_step a b) 0 c.count c.ring.zero
+
+  abbrev pub loop_sum : ℕ → ℕ → Option Kind
+  loop_sum a b = judged c.held (product_at c.ring (c.loop_value a) (c.loop_value b)) (loop_sum_right a b)
+
+  -- d_a d_a F(a,a*,a,a;1,1) H(a,a*,a,a;1,1)
+  abbrev pub loop_f_left : ℕ → Option E
+  loop_f_left a =
+      let dual = dual_of c.count c.fuse a in
+      product4_at c.ring (c.loop_value a) (c.loop_value a) (c.f a dual a a 0 0) (c.h a dual a a 0 0)
+
+  abbrev pub loop_f : ℕ → Option Kind
+  loop_f a = judged c.held (loop_f_left a) (Some c.ring.one)
+
   -- what is wrong with a law at an admissible index, if anything is
   abbrev pub verdict : Law → List ℕ → Option Kind
   verdict UnitF = at6 unit_f
@@ -130,6 +164,11 @@ module _ {E : Type 0} (c : Symbols E) where
   verdict Pentagon = at9 pentagon
   verdict HexagonOne = at6 (hexagon c.r)
   verdict HexagonTwo = at6 (hexagon c.s)
+  verdict UnitTwist = at1 (unit_mark c.twist)
+  verdict Twist = at3 twist
+  verdict UnitLoop = at1 (unit_mark c.loop_value)
+  verdict LoopSum = at2 loop_sum
+  verdict LoopF = at1 loop_f
 
   -- the first event of a law
   abbrev pub first_of : Law → Option Event

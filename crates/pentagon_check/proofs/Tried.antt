@@ -18,6 +18,8 @@ numbered = symbols_of whole_ring whole_held (record {
   set_r = λ a b c. None;
   set_w = λ a b c. None;
   set_v = λ a b c. None;
+  set_twist = λ a. None;
+  set_loop = λ a. None;
 })
 
 -- F(4,2,3,6;5,7) F(0,1,7,6;4,8) = 1423657 · 1017648
@@ -38,6 +40,8 @@ with_one rules value = symbols_of whole_ring whole_held (record {
   set_r = λ a b c. None;
   set_w = λ a b c. None;
   set_v = λ a b c. None;
+  set_twist = λ a. None;
+  set_loop = λ a. None;
 })
 
 -- the group of order two

@@ -88,10 +88,26 @@ fib_given = record {
   set_r = v_listed ((110, num (pos 0) (pos 0) (pos 0) (pos 1)) ∷ (111, num (pos 1) (pos 1) (pos 1) (pos 1)) ∷ []);
   set_w = v_listed ((110, inverse_golden) ∷ []);
   set_v = v_listed ((110, num (pos 0) (pos 0) (negsuc 0) (negsuc 0)) ∷ []);
+  set_twist = λ a. None;
+  set_loop = λ a. None;
 }
 
 abbrev pub fib : Symbols Whole5
 fib = symbols_of ring5 held5 fib_given
+
+-- the same in version 2: the twist of t is z^2, and its loop value the golden ratio
+abbrev pub golden : Whole5
+golden = num (pos 0) (pos 0) (negsuc 0) (negsuc 0)
+
+abbrev pub fib2_given : Given Whole5
+fib2_given = record fib_given {
+  version = 2;
+  set_twist = listed ((1, num (pos 0) (pos 0) (pos 1) (pos 0)) ∷ []);
+  set_loop = listed ((1, golden) ∷ []);
+}
+
+abbrev pub fib2 : Symbols Whole5
+fib2 = symbols_of ring5 held5 fib2_given
 
 abbrev pub whole : ℕ → Whole5
 whole n = num (pos n) (pos 0) (pos 0) (pos 0)
@@ -106,4 +122,6 @@ numbered = record {
   set_r = v_listed ((210, whole 11) ∷ (120, whole 13) ∷ []);
   set_w = v_listed ((120, whole 17) ∷ (210, whole 19) ∷ []);
   set_v = v_listed ((120, whole 23) ∷ (210, whole 29) ∷ []);
+  set_twist = λ a. None;
+  set_loop = λ a. None;
 }

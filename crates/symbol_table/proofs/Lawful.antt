@@ -8,7 +8,7 @@ use Rattle.fusion_rules.proofs.PassLemmas.{no_fault_passes}
 use Rattle.symbol_table.specs.Symbols.{Symbols}
 use Rattle.symbol_table.specs.Laws.{IsLawful, laws_of}
 use Rattle.symbol_table.specs.Category.{IsCategory, draft_symbols}
-use Rattle.symbol_table.proofs.Fib.{Whole5, num, fib, held5, fuse5}
+use Rattle.symbol_table.proofs.Fib.{Whole5, num, fib, fib2, held5, fuse5}
 use Rattle.symbol_table.proofs.Tested.{tried_laws}
 use Rattle.symbol_table.proofs.Worked.{unit_draft, unit_derived, unit_holds}
 
@@ -31,6 +31,13 @@ pub fib_lawful : IsLawful fib
 fib_lawful = record {
   rules = no_fault_passes 2 fuse5 refl;
   laws = tried_laws fib equal_sound equal_complete (laws_of 1) refl;
+}
+
+-- the Fibonacci category of version 2 is lawful too
+pub fib2_lawful : IsLawful fib2
+fib2_lawful = record {
+  rules = no_fault_passes 2 fuse5 refl;
+  laws = tried_laws fib2 equal_sound equal_complete (laws_of 2) refl;
 }
 
 abbrev pub unit_alone : Symbols ℤ

@@ -1,8 +1,8 @@
 -- The equations of the laws, at numbers that were worked out by hand.
-use Rattle.std.specs.Prelude.{◌≡◌, ℤ, pos, neg_ℤ, refl}
+use Rattle.std.specs.Prelude.{◌≡◌, ◌==◌, ℤ, pos, neg_ℤ, refl}
 use Rattle.ring_laws.specs.Whole.{whole_held}
 use Rattle.symbol_table.specs.Symbols.{Symbols, symbols_of}
-use Rattle.symbol_table.specs.Laws.{Same, NotZero, Free, norm_r_says, unit_f_says, unit_says, real_w_says, inverse_w_says, inverse_f_says, inverse_h_says, rigid_says, pentagon_says, hexagon_says}
+use Rattle.symbol_table.specs.Laws.{Same, NotZero, Free, norm_r_says, unit_f_says, unit_says, real_w_says, inverse_w_says, inverse_f_says, inverse_h_says, rigid_says, pentagon_says, hexagon_says, unit_mark_says, twist_says, loop_sum_says, loop_f_says}
 use Rattle.symbol_table.proofs.Worked.{numbered, turned_ring}
 
 -- seven labels that all fuse, each symbol another number, and a conjugate that is the negative
@@ -63,3 +63,29 @@ hexagon_one_by_hand = refl
 
 pub hexagon_two_by_hand : hexagon_says labelled labelled.s 1 2 3 4 5 6 ≡ Same (pos 1109791539598209511680000000) (neg_ℤ (pos 304446862490540851365984))
 hexagon_two_by_hand = refl
+
+-- the twist and the loop value of the unit, and of no other label
+pub unit_twist_by_hand : unit_mark_says labelled labelled.twist 0 ≡ Same (pos 50) (pos 1)
+unit_twist_by_hand = refl
+
+pub unit_loop_by_hand : unit_mark_says labelled labelled.loop_value 0 ≡ Same (pos 60) (pos 1)
+unit_loop_by_hand = refl
+
+pub no_unit_mark : unit_mark_says labelled labelled.twist 1 ≡ Free
+no_unit_mark = refl
+
+-- R(1,2,0) R(2,1,0) theta_1 theta_2 = theta_0: 2120 · 2210 · 51 · 52 = 50
+pub twist_by_hand : twist_says labelled 1 2 0 ≡ Same (pos 12425150400) (pos 50)
+twist_by_hand = refl
+
+-- 61 · 62, and the sum of all seven loop values
+pub loop_sum_by_hand : loop_sum_says labelled 1 2 ≡ Same (pos 3782) (pos 441)
+loop_sum_by_hand = refl
+
+-- where two labels make 3 alone, the sum is 63
+pub loop_sum_where_fused : loop_sum_says (record labelled { fuse = λ a b c. c == 3 }) 1 2 ≡ Same (pos 3782) (pos 63)
+loop_sum_where_fused = refl
+
+-- 63 · 63 · F(3,0,3,3;0,0) H(3,0,3,3;0,0), where H = conj(F) w(0,3,0) w(3,0,3) v(3,0,0) v(0,3,3)
+pub loop_f_by_hand : loop_f_says labelled 3 ≡ Same (neg_ℤ (pos 1170085962635271433330110000000)) (pos 1)
+loop_f_by_hand = refl

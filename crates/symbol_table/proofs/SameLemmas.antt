@@ -1,5 +1,5 @@
 -- Two indices compare as equal exactly where their labels are the same; one value more in a map.
-use Rattle.std.proofs.Common.{◌≡◌, ℕ, Bool, true, false, ◌&&◌, ◌==◌, refl, ap, ◌∙◌, Option, Some, cond, arith}
+use Rattle.std.proofs.Common.{◌≡◌, ℕ, Bool, true, false, ◌&&◌, ◌==◌, [], refl, ap, sym, ◌∙◌, Option, Some, cond, arith, inl, inr}
 use Rattle.std.specs.Prelude.{if◌then◌else◌}
 use Rattle.std.specs.Ordering.{nat_cmp, ordering_then, is_eq}
 use Rattle.std.specs.declared.cmp.Ordering.{Ordering}
@@ -11,9 +11,11 @@ use Rattle.std.proofs.lemmas.Map.Views.{All-values-insert_entry}
 use Rattle.ring_laws.specs.Ring.{Ring}
 use Rattle.std.proofs.lemmas.Bool.Decides.{nat_tests}
 use Rattle.symbol_table.specs.Index.{f_index, v_index, f_cmp, v_cmp, f_same, v_same}
-use Rattle.symbol_table.specs.Draft.{AreMembers, Sets, SetsF, SetsVertex}
+use Rattle.symbol_table.specs.Draft.{AreMembers, IsVersioned, Marks, Sets, SetsF, SetsMark, SetsVertex, mark_at}
 use Rattle.symbol_table.specs.declared.draft.SetFault.{SetFault}
 use Rattle.symbol_table.specs.declared.draft.SetFault.TheVariants.{NotAdmissible, Repeated, Memory}
+use Rattle.symbol_table.specs.declared.draft.MarkFault.{MarkFault}
+use Rattle.symbol_table.specs.declared.draft.MarkFault.TheVariants as mark
 use Rattle.symbol_table.specs.declared.index.FIndex.{FIndex}
 use Rattle.symbol_table.specs.declared.index.VIndex.{VIndex}
 
@@ -48,6 +50,9 @@ pub v_updates : {E : Type 0} (m n : BTreeMap VIndex E) (at : VIndex) (value : E)
     → SetsVertex at value (λ a b c. lookup (is_at (v_cmp (v_index a b c))) m.entries) (λ a b c. lookup (is_at (v_cmp (v_index a b c))) n.entries)
 v_updates m n at value new a b c = new.0 (v_index a b c) ∙ chosen _ _ _ _ (v_is at (v_index a b c))
 
+pub mark_updates : {E : Type 0} (m n : BTreeMap ℕ E) (at : ℕ) (value : E) → Updates nat_cmp m n at (Some value) → SetsMark at value (mark_at m.entries) (mark_at n.entries)
+mark_updates m n at value new a = new.0 a ∙ chosen _ _ _ _ (label_is at a)
+
 pub on_ok : {A F P Q : Type 0} (r : Result A F) → (P → Q) → OnOk r P → OnOk r Q
 on_ok (Ok x) h p = h p
 on_ok (Err e) h p = p
@@ -59,3 +64,14 @@ members_kept ring cmp (Ok x) fault old new at value told are is = rw told.1 (All
 members_kept ring cmp (Err Memory) fault old new at value told are is = rw told.1 are
 members_kept ring cmp (Err NotAdmissible) fault old new at value told are is = rw told.1 are
 members_kept ring cmp (Err Repeated) fault old new at value told are is = rw told.1 are
+
+-- and so where a twist or a loop value is set
+pub marks_kept : {E A : Type 0} (ring : Ring E) (r : Result A MarkFault) (fault : Option MarkFault) (old new : List (ℕ × E)) (at : ℕ) (value : E)
+    → Marks r fault old new (insert_entry nat_cmp old at value) → AreMembers ring old → IsTrue (ring.member value) → AreMembers ring new
+marks_kept ring (Ok x) fault old new at value told are is = rw told.1 (All-values-insert_entry nat_cmp at value (λ x. IsTrue (ring.member x)) old are is)
+marks_kept ring (Err mark.Memory) fault old new at value told are is = rw told.1 are
+marks_kept ring (Err mark.Repeated) fault old new at value told are is = rw told.1 are
+
+-- in version 2 any twists and loop values may be set
+pub second_versioned : {E : Type 0} (version : ℕ) (twists loops : List (ℕ × E)) → version ≡ 2 → IsVersioned version twists loops
+second_versioned version twists loops is = record { known = inr is; first = λ one. absurd (omega (arith, sym one ∙ is)) }

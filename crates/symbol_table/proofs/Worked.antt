@@ -18,7 +18,8 @@ use Rattle.symbol_table.specs.declared.draft.SetFault.TheVariants.{NotAdmissible
 abbrev pub turned_ring : Ring ℤ
 turned_ring = record whole_ring { conjugate = neg_ℤ }
 
--- all labels fuse, and each symbol is another number: 1abcdef, 2abc, 3abc, 4abc in digits
+-- all labels fuse, and each symbol is another number: 1abcdef, 2abc, 3abc, 4abc in digits, 5a for a twist and 6a for a
+-- loop value
 abbrev pub numbered : Given ℤ
 numbered = record {
   version = 1;
@@ -28,6 +29,8 @@ numbered = record {
   set_r = λ a b c. Some (pos (2000 + 100 * a + 10 * b + c));
   set_w = λ a b c. Some (pos (3000 + 100 * a + 10 * b + c));
   set_v = λ a b c. Some (pos (4000 + 100 * a + 10 * b + c));
+  set_twist = λ a. Some (pos (50 + a));
+  set_loop = λ a. Some (pos (60 + a));
 }
 
 -- conj(F(1,2,3,4;6,5)) w(2,3,5) w(1,5,4) v(1,2,6) v(6,3,4) = -1123465 · 3235 · 3154 · 4126 · 4634
@@ -90,6 +93,8 @@ partly = record {
   set_r = (v_index 1 1 0, pos 5) ∷ [];
   set_w = [];
   set_v = [];
+  set_twist = [];
+  set_loop = [];
 }
 
 pub f_set : f_of whole_ring (given partly) 1 1 1 1 0 0 ≡ pos 7
@@ -141,7 +146,7 @@ no_conjugate = refl
 
 -- the unit alone: H and S are 1, and a derived value that holds them
 abbrev pub unit_draft : DraftValue ℕ ℤ
-unit_draft = record { version = 1; ring = 0; rules = one_label; set_f = []; set_r = []; set_w = []; set_v = [] }
+unit_draft = record { version = 1; ring = 0; rules = one_label; set_f = []; set_r = []; set_w = []; set_v = []; set_twist = []; set_loop = [] }
 
 abbrev pub unit_derived : DerivedValue ℤ
 unit_derived = record { put_h = (f_index 0 0 0 0 0 0, pos 1) ∷ []; put_s = (v_index 0 0 0, pos 1) ∷ [] }

@@ -5,7 +5,7 @@ use Rattle.ring_laws.specs.Sums.{total}
 use Rattle.fusion_rules.specs.Check.{RulesPass, dual_of}
 use Rattle.symbol_table.specs.Symbols.{Symbols}
 use Rattle.symbol_table.specs.declared.law.Law.{Law}
-use Rattle.symbol_table.specs.declared.law.Law.TheVariants.{UnitF, UnitR, UnitW, RealW, InverseW, NormR, DeriveH, DeriveS, InverseF, InverseH, Rigid, Pentagon, HexagonOne, HexagonTwo}
+use Rattle.symbol_table.specs.declared.law.Law.TheVariants.{UnitF, UnitR, UnitW, RealW, InverseW, NormR, DeriveH, DeriveS, InverseF, InverseH, Rigid, Pentagon, HexagonOne, HexagonTwo, UnitTwist, Twist, UnitLoop, LoopSum, LoopF}
 use Rattle.symbol_table.specs.declared.law.Triple.{Triple}
 
 -- A row of the table of laws: the name that is written, how many labels an index has, and at which places three of
@@ -52,6 +52,10 @@ vertex name = record { name = name; places = 3; triples = vertex_triples }
 abbrev six : List ℕ → List Triple → Form
 six name triples = record { name = name; places = 6; triples = triples }
 
+-- labels of which none have to fuse
+abbrev free : List ℕ → ℕ → Form
+free name places = record { name = name; places = places; triples = [] }
+
 -- The table of laws. What each says stands in `equation_of` below.
 abbrev pub form_of : Law → Form
 form_of UnitF = six (codes "unit-f") unit_f_triples
@@ -64,15 +68,29 @@ form_of DeriveH = six (codes "derive-h") derive_h_triples
 form_of DeriveS = vertex (codes "derive-s")
 form_of InverseF = six (codes "inverse-f") inverse_f_triples
 form_of InverseH = six (codes "inverse-h") inverse_h_triples
-form_of Rigid = record { name = codes "rigid"; places = 1; triples = [] }
+form_of Rigid = free (codes "rigid") 1
 form_of Pentagon = record { name = codes "pentagon"; places = 9; triples = pentagon_triples }
 form_of HexagonOne = six (codes "hexagon-1") hexagon_triples
 form_of HexagonTwo = six (codes "hexagon-2") hexagon_triples
+form_of UnitTwist = free (codes "unit-twist") 1
+form_of Twist = vertex (codes "twist")
+form_of UnitLoop = free (codes "unit-loop") 1
+form_of LoopSum = free (codes "loop") 2
+form_of LoopF = free (codes "loop-f") 1
 
--- The laws of a version, in the order of the check: those of one symbol, weight or vertex, the pentagon, the hexagons.
+-- the laws of twists and loop values, in the order of the check
+abbrev pub mark_laws : List Law
+mark_laws = UnitTwist ∷ Twist ∷ UnitLoop ∷ LoopSum ∷ LoopF ∷ []
+
+-- twists and loop values are judged in version 2 alone
+abbrev pub second_laws : ℕ → List Law
+second_laws version = if version == 2 then mark_laws else []
+
+-- The laws of a version, in the order of the check: those of one symbol, weight or vertex, the pentagon, the hexagons,
+-- and those of twists and loop values.
 abbrev pub laws_of : ℕ → List Law
 laws_of version =
-    UnitF ∷ UnitR ∷ UnitW ∷ RealW ∷ InverseW ∷ NormR ∷ DeriveH ∷ DeriveS ∷ InverseF ∷ InverseH ∷ Rigid ∷ Pentagon ∷ HexagonOne ∷ HexagonTwo ∷ []
+    UnitF ∷ UnitR ∷ UnitW ∷ RealW ∷ InverseW ∷ NormR ∷ DeriveH ∷ DeriveS ∷ InverseF ∷ InverseH ∷ Rigid ∷ Pentagon ∷ HexagonOne ∷ HexagonTwo ∷ second_laws version
 
 -- every law stands in a list
 abbrev pub HasEveryLaw : List Law → Type 0
@@ -90,6 +108,9 @@ fuse_all fuse index (t ∷ ts) = fuses_at fuse index t && fuse_all fuse index ts
 -- a function of labels at those of an index
 abbrev pub at1 {ℓ} : {A : Type ℓ} → (ℕ → A) → List ℕ → A
 at1 g i = g (slice_index i 0)
+
+abbrev pub at2 {ℓ} : {A : Type ℓ} → (ℕ → ℕ → A) → List ℕ → A
+at2 g i = g (slice_index i 0) (slice_index i 1)
 
 abbrev pub at3 {ℓ} : {A : Type ℓ} → (ℕ → ℕ → ℕ → A) → List ℕ → A
 at3 g i = g (slice_index i 0) (slice_index i 1) (slice_index i 2)
@@ -168,6 +189,25 @@ module _ {E : Type 0} (c : Symbols E) where
       Same (times (times (exchange a b e) (c.f b a k d e f)) (exchange a k f))
       (total c.ring c.count (λ g. times (times (c.f a b k d e g) (exchange a g d)) (c.f b k a d g f)))
 
+  -- the twist or the loop value of the unit is 1
+  abbrev pub unit_mark_says : (ℕ → E) → ℕ → Equation E
+  unit_mark_says mark a = where_so (a == 0) (Same (mark a) c.ring.one)
+
+  -- R(a,b,c) R(b,a,c) theta_a theta_b = theta_c
+  abbrev pub twist_says : ℕ → ℕ → ℕ → Equation E
+  twist_says a b k = Same (times (times (times (c.r a b k) (c.r b a k)) (c.twist a)) (c.twist b)) (c.twist k)
+
+  -- d_a d_b = sum over c with N(a,b,c) of d_c
+  abbrev pub loop_sum_says : ℕ → ℕ → Equation E
+  loop_sum_says a b =
+      Same (times (c.loop_value a) (c.loop_value b)) (total c.ring c.count (λ k. if c.fuse a b k then c.loop_value k else c.ring.zero))
+
+  -- d_a d_a F(a,a*,a,a;1,1) H(a,a*,a,a;1,1) = 1, with a* the dual of a
+  abbrev pub loop_f_says : ℕ → Equation E
+  loop_f_says a =
+      let dual = dual_of c.count c.fuse a in
+      Same (times (times (times (c.loop_value a) (c.loop_value a)) (c.f a dual a a 0 0)) (c.h a dual a a 0 0)) c.ring.one
+
   -- H and S are formulas of their own; deriving them is no equation
   abbrev pub equation_of : Law → List ℕ → Equation E
   equation_of UnitF = at6 unit_f_says
@@ -184,6 +224,11 @@ module _ {E : Type 0} (c : Symbols E) where
   equation_of Pentagon = at9 pentagon_says
   equation_of HexagonOne = at6 (hexagon_says c.r)
   equation_of HexagonTwo = at6 (hexagon_says c.s)
+  equation_of UnitTwist = at1 (unit_mark_says c.twist)
+  equation_of Twist = at3 twist_says
+  equation_of UnitLoop = at1 (unit_mark_says c.loop_value)
+  equation_of LoopSum = at2 loop_sum_says
+  equation_of LoopF = at1 loop_f_says
 
   -- the equation of a law is true at every index
   abbrev pub LawHolds : Law → Type 0

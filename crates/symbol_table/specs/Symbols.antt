@@ -1,9 +1,9 @@
 -- The symbols of a category at all labels.
-use Rattle.std.specs.Prelude.{ℕ, Bool, IsTrue, Option, unwrap_or, ◌&&◌, if◌then◌else◌}
+use Rattle.std.specs.Prelude.{ℕ, nat_lt, Bool, IsTrue, Option, unwrap_or, ◌&&◌, if◌then◌else◌}
 use Rattle.ring_laws.specs.Ring.{Ring, Held}
 
 -- What a draft gives: the version of its laws, how many labels there are, which triples fuse, and the values that
--- were set.
+-- were set; a twist and a loop value are set by label.
 pub record Given (E : Type 0) : Type 0 where
   pub version : ℕ
   pub count : ℕ
@@ -12,6 +12,8 @@ pub record Given (E : Type 0) : Type 0 where
   pub set_r : ℕ → ℕ → ℕ → Option E
   pub set_w : ℕ → ℕ → ℕ → Option E
   pub set_v : ℕ → ℕ → ℕ → Option E
+  pub set_twist : ℕ → Option E
+  pub set_loop : ℕ → Option E
 
 -- The symbols at all labels, over a ring, and the version of the laws that they are to obey.
 pub record Symbols (E : Type 0) : Type 0 where
@@ -26,6 +28,8 @@ pub record Symbols (E : Type 0) : Type 0 where
   pub s : ℕ → ℕ → ℕ → E
   pub w : ℕ → ℕ → ℕ → E
   pub v : ℕ → ℕ → ℕ → E
+  pub twist : ℕ → E
+  pub loop_value : ℕ → E
 
 -- F(a,b,c,d;e,f) is admissible where its four vertices are.
 abbrev pub f_admissible : (ℕ → ℕ → ℕ → Bool) → ℕ → ℕ → ℕ → ℕ → ℕ → ℕ → Bool
@@ -39,6 +43,10 @@ f_of ring g a b c d e f =
 -- The same for a symbol of a vertex, whose set values are these.
 abbrev pub vertex_of : {E : Type 0} → Ring E → Given E → (ℕ → ℕ → ℕ → Option E) → ℕ → ℕ → ℕ → E
 vertex_of ring g values a b c = if g.fuse a b c then unwrap_or (values a b c) ring.one else ring.zero
+
+-- The same for a twist or a loop value: a label without a set value has 1, and what is no label has 0.
+abbrev pub mark_of : {E : Type 0} → Ring E → Given E → (ℕ → Option E) → ℕ → E
+mark_of ring g values a = if nat_lt a g.count then unwrap_or (values a) ring.one else ring.zero
 
 -- H(a,b,c,d;f,e) = conj(F(a,b,c,d;e,f)) w(b,c,f) w(a,f,d) v(a,b,e) v(e,c,d)
 abbrev pub h_of : {E : Type 0} → Ring E → Given E → ℕ → ℕ → ℕ → ℕ → ℕ → ℕ → E
@@ -72,6 +80,8 @@ symbols_of ring held g = record {
   s = s_of ring g;
   w = vertex_of ring g g.set_w;
   v = vertex_of ring g g.set_v;
+  twist = mark_of ring g g.set_twist;
+  loop_value = mark_of ring g g.set_loop;
 }
 
 -- every F is of the ring

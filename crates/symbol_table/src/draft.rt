@@ -3,10 +3,10 @@ ghost use Rattle.fusion_rules.specs.Fusion.{fuses};
 ghost use Rattle.symbol_table.specs.Index.{AreSixLabels, AreThreeLabels};
 ghost use Rattle.symbol_table.specs.Symbols.{IsOfRing};
 ghost use Rattle.symbol_table.specs.Category.{symbols};
-ghost use Rattle.symbol_table.specs.Draft.{DraftValue, IsMember, IsOver, Sets, SetsF, SetsVertex, f_fault, f_index_admissible, given, vertex_fault, with_f, with_r, with_v, with_w};
+ghost use Rattle.symbol_table.specs.Draft.{DraftValue, IsMember, IsOver, Sets, SetsF, SetsVertex, f_fault, f_index_admissible, given, mark_fault, vertex_fault, as_second, with_f, with_loop, with_r, with_twist, with_v, with_w, Marks, SetsMark};
 
 use crate::index::{FIndex, VIndex};
-use crate::values::{fault_at, set_value, value_or_one};
+use crate::values::{fault_at, set_mark, set_value, value_or_one};
 use fusion_rules::Rules;
 use ring_laws::StarRing;
 use std::alloc::Global;
@@ -24,11 +24,21 @@ pub enum SetFault {
     Memory,
 }
 
+/// Why a twist or a loop value isn't set.
+#[derive(Clone, Copy, Debug, PartialEq, Eq)]
+pub enum MarkFault {
+    /// That of the label was set before.
+    Repeated,
+    /// There was no memory for one value more.
+    Memory,
+}
+
 /// Rules, and values of F, R, w and v at some of their admissible indices, over a ring; and the version of the laws
-/// that they are to obey.
+/// that they are to obey, 1 or 2.
 ///
-/// A symbol that wasn't set is 1. Every value that was set is a member of the ring. Nothing says that the
-/// symbols are those of a category.
+/// In version 2 each label has a twist (its topological spin) and a loop value (its quantum dimension) too. What
+/// wasn't set is 1. Every value that was set is a member of the ring. Nothing says that the symbols are those of a
+/// category.
 #[derive(Drop)]
 pub struct Draft<R: StarRing> {
     version: u8,
@@ -38,6 +48,8 @@ pub struct Draft<R: StarRing> {
     r: BTreeMap<VIndex, R::Elem>,
     w: BTreeMap<VIndex, R::Elem>,
     v: BTreeMap<VIndex, R::Elem>,
+    twist: BTreeMap<u8, R::Elem>,
+    loop_value: BTreeMap<u8, R::Elem>,
 }
 
 impl<R: StarRing> Model for Draft<R> {
@@ -45,16 +57,16 @@ impl<R: StarRing> Model for Draft<R> {
 
     ghost Value = { DraftValue R R.Elem };
 
-    ghost view = { λ d. record { version = d.version; ring = d.ring; rules = d.rules; set_f = d.f.entries; set_r = d.r.entries; set_w = d.w.entries; set_v = d.v.entries } };
+    ghost view = { λ d. record { version = d.version; ring = d.ring; rules = d.rules; set_f = d.f.entries; set_r = d.r.entries; set_w = d.w.entries; set_v = d.v.entries; set_twist = d.twist.entries; set_loop = d.loop_value.entries } };
 
-    ghost invariant = { λ d. IsOver (R.ring d.ring) (record { version = d.version; ring = d.ring; rules = d.rules; set_f = d.f.entries; set_r = d.r.entries; set_w = d.w.entries; set_v = d.v.entries }) };
+    ghost invariant = { λ d. IsOver (R.ring d.ring) (record { version = d.version; ring = d.ring; rules = d.rules; set_f = d.f.entries; set_r = d.r.entries; set_w = d.w.entries; set_v = d.v.entries; set_twist = d.twist.entries; set_loop = d.loop_value.entries }) };
 }
 
 impl<R: StarRing> Draft<R> {
-    /// A draft of this ring and these rules, of version 1, with no symbol set.
+    /// A draft of this ring and these rules, of version 1, with nothing set.
     pub fn new(alloc: Global, ring: R, rules: Rules) -> Draft<R>
         ensures { result ≡ record
-            { version = 1; ring = ring; rules = rules; set_f = []; set_r = []; set_w = []; set_v = [] } }
+            { version = 1; ring = ring; rules = rules; set_f = []; set_r = []; set_w = []; set_v = []; set_twist = []; set_loop = [] } }
     {
         Draft {
             version: 1,
@@ -64,16 +76,26 @@ impl<R: StarRing> Draft<R> {
             r: BTreeMap::new(alloc),
             w: BTreeMap::new(alloc),
             v: BTreeMap::new(alloc),
+            twist: BTreeMap::new(alloc),
+            loop_value: BTreeMap::new(alloc),
         }
     }
 
     /// The version: by it the list of laws goes that a category's symbols obey.
     pub fn version(&self) -> u8
         ensures version { result ≡ self.now.version }
-        // Every value that was set is a member of the ring.
+        // Every value that was set is a member of the ring; the version is 1 or 2.
         ensures members { IsOver (R.ring self.now.ring) self.now }
     {
         self.version
+    }
+
+    /// Makes version 2 of a draft of version 1, which has its twists and loop values all 1. Nothing else changes.
+    pub fn second(&mut self)
+        requires { self.old.version ≡ 1 }
+        ensures { self.new ≡ as_second self.old }
+    {
+        self.version = 2;
     }
 
     /// The ring of the values.
@@ -140,6 +162,26 @@ impl<R: StarRing> Draft<R> {
         ensures held { IsTrue (R.held.can_hold result) }
     {
         value_or_one(&self.ring, self.v.get(at))
+    }
+
+    /// The twist of a label below the count: the value that was set, or 1.
+    pub fn twist(&self, a: u8) -> R::Elem
+        requires { a < self.now.rules.count }
+        ensures value { result ≡ (symbols R.StarRing self.now).twist a }
+        ensures member { IsMember R.StarRing self.now result }
+        ensures held { IsTrue (R.held.can_hold result) }
+    {
+        value_or_one(&self.ring, self.twist.get(&a))
+    }
+
+    /// The loop value of a label below the count: the value that was set, or 1.
+    pub fn loop_value(&self, a: u8) -> R::Elem
+        requires { a < self.now.rules.count }
+        ensures value { result ≡ (symbols R.StarRing self.now).loop_value a }
+        ensures member { IsMember R.StarRing self.now result }
+        ensures held { IsTrue (R.held.can_hold result) }
+    {
+        value_or_one(&self.ring, self.loop_value.get(&a))
     }
 
     /// Sets F at an index of labels below the count, to a member of the ring.
@@ -209,6 +251,32 @@ impl<R: StarRing> Draft<R> {
         set_value(&mut self.v, at, value)
     }
 
+    /// Sets the twist of a label below the count, in version 2, to a member of the ring.
+    ///
+    /// Refuses `Repeated` exactly where it was set before. Refused, or for want of memory, the draft is unchanged.
+    pub fn set_twist(&mut self, a: u8, value: R::Elem) -> Result<(), MarkFault>
+        requires version { self.old.version ≡ 2 }
+        requires label { a < self.old.rules.count }
+        requires member { IsMember R.StarRing self.old value }
+        ensures told { Marks result (mark_fault ((given self.old).set_twist a)) self.old self.new (with_twist self.old a value) }
+        ensures sets { OnOk result (SetsMark a value (given self.old).set_twist (given self.new).set_twist) }
+    {
+        set_mark(&mut self.twist, a, value)
+    }
+
+    /// Sets the loop value of a label below the count, in version 2, to a member of the ring.
+    ///
+    /// Refuses `Repeated` exactly where it was set before. Refused, or for want of memory, the draft is unchanged.
+    pub fn set_loop(&mut self, a: u8, value: R::Elem) -> Result<(), MarkFault>
+        requires version { self.old.version ≡ 2 }
+        requires label { a < self.old.rules.count }
+        requires member { IsMember R.StarRing self.old value }
+        ensures told { Marks result (mark_fault ((given self.old).set_loop a)) self.old self.new (with_loop self.old a value) }
+        ensures sets { OnOk result (SetsMark a value (given self.old).set_loop (given self.new).set_loop) }
+    {
+        set_mark(&mut self.loop_value, a, value)
+    }
+
     /// Why F isn't set at an index of labels below the count: `NotAdmissible` where the index isn't admissible, else
     /// `Repeated` where it was set before. None where it may be set.
     pub fn f_fault(&self, at: &FIndex) -> Option<SetFault>
@@ -240,6 +308,20 @@ impl<R: StarRing> Draft<R> {
         ensures { result ≡ vertex_fault (given self.now) (given self.now).set_v at.now }
     {
         fault_at(self.rules.allows(at.a, at.b, at.c), self.v.contains_key(at))
+    }
+
+    /// Whether the twist of a label was set.
+    pub fn has_twist(&self, a: u8) -> bool
+        ensures { result ≡ is_some ((given self.now).set_twist a) }
+    {
+        self.twist.contains_key(&a)
+    }
+
+    /// Whether the loop value of a label was set.
+    pub fn has_loop(&self, a: u8) -> bool
+        ensures { result ≡ is_some ((given self.now).set_loop a) }
+    {
+        self.loop_value.contains_key(&a)
     }
 
     /// F(a,b,c,d;e,f) at any six labels below the count: 0 where they aren't admissible.

@@ -37,6 +37,16 @@ pub enum Law {
     HexagonOne,
     /// The hexagon of S.
     HexagonTwo,
+    /// The twist of the unit is 1.
+    UnitTwist,
+    /// Two exchanges of a and b to c are the twist of c over those of a and b.
+    Twist,
+    /// The loop value of the unit is 1.
+    UnitLoop,
+    /// The product of two loop values is the sum of those of the labels that their labels make.
+    LoopSum,
+    /// The square of a loop value is the inverse of F(a,a*,a,a;1,1) H(a,a*,a,a;1,1).
+    LoopF,
 }
 
 /// Three places of an index, counted from 0, whose labels a, b, c have to fuse: c occurs in a times b.
@@ -134,6 +144,19 @@ fn six(name: &'static str, triples: &'static [Triple]) -> Form
     }
 }
 
+/// The form of a law over so many labels of which none have to fuse.
+fn free(name: &'static str, places: u8) -> Form
+    ensures name { result.name.now ≡ name.now }
+    ensures places { result.places ≡ places }
+    ensures triples { result.triples.now ≡ [] }
+{
+    Form {
+        name,
+        places,
+        triples: &[],
+    }
+}
+
 impl Law {
     /// The table of laws: the name, the number of labels of an index, and where three of them have to fuse.
     fn form(self) -> Form
@@ -153,11 +176,7 @@ impl Law {
             Law::DeriveS => vertex("derive-s"),
             Law::InverseF => six("inverse-f", &INVERSE_F),
             Law::InverseH => six("inverse-h", &INVERSE_H),
-            Law::Rigid => Form {
-                name: "rigid",
-                places: 1,
-                triples: &[],
-            },
+            Law::Rigid => free("rigid", 1),
             Law::Pentagon => Form {
                 name: "pentagon",
                 places: 9,
@@ -165,6 +184,11 @@ impl Law {
             },
             Law::HexagonOne => six("hexagon-1", &HEXAGON),
             Law::HexagonTwo => six("hexagon-2", &HEXAGON),
+            Law::UnitTwist => free("unit-twist", 1),
+            Law::Twist => vertex("twist"),
+            Law::UnitLoop => free("unit-loop", 1),
+            Law::LoopSum => free("loop", 2),
+            Law::LoopF => free("loop-f", 1),
         }
     }
 

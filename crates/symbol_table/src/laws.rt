@@ -3,7 +3,8 @@
 
 ghost use Rattle.symbol_table.specs.AllLabels.{HasEquations, HasUnit, IsProper, IsWeighted};
 ghost use Rattle.symbol_table.specs.Category.{symbols};
-ghost use Rattle.symbol_table.specs.Laws.{HasEveryLaw, laws_of};
+ghost use Rattle.std.specs.Prelude.{◌≡◌, ◌++◌};
+ghost use Rattle.symbol_table.specs.Laws.{HasEveryLaw, laws_of, mark_laws};
 
 use crate::category::Category;
 use ring_laws::StarRing;
@@ -22,7 +23,8 @@ pub fn all_labels<R: StarRing>(category: &Category<R>)
     let _rules = draft.rules().count();
 }
 
-/// The list of the first version has every law.
+/// The list of the second version has every law: behind those of the first one those of twists and loop values.
 pub fn every_law()
-    ensures { HasEveryLaw (laws_of 1) }
+    ensures all { HasEveryLaw (laws_of 2) }
+    ensures behind { laws_of 2 ≡ laws_of 1 ++ mark_laws }
 {}

@@ -7,14 +7,16 @@
 //! Glossary:
 //! - *given*: which triples fuse, and which values were set (`specs/Symbols.antt`).
 //! - *symbols*: F, H, R, S, w and v at all labels: 1 where an admissible index wasn't set, 0 where an index
-//!   isn't admissible (`specs/Symbols.antt`).
+//!   isn't admissible; the twist and the loop value of each label: 1 where it wasn't set (`specs/Symbols.antt`).
 //! - *stated H and S*: their evaluation from the left, which stops where an item doesn't fit
 //!   (`specs/Evaluated.antt`).
-//! - *draft*: the ring, the rules and the set values, in the order of their indices (`specs/Draft.antt`).
+//! - *draft*: the version, the ring, the rules and the set values, in the order of their indices
+//!   (`specs/Draft.antt`).
+//! - *mark*: a twist or a loop value, by its label; a draft of version 2 alone has them set (`specs/Draft.antt`).
 //! - *derived*: the values of H and S that were put, and whether they are those of a draft
 //!   (`specs/Derived.antt`).
 //! - *law*: its indices as data, and its equation (`specs/Laws.antt`).
-//! - *lawful*: the rules pass and every equation of every law is true (`specs/Laws.antt`).
+//! - *lawful*: the rules pass and every equation of every law of the version is true (`specs/Laws.antt`).
 //! - *proper*, *unit*, *weighted*, *equations*: what the symbols of a category obey at all labels
 //!   (`specs/AllLabels.antt`, given by [`laws::all_labels`]).
 //! - *category*: a lawful draft with its H and S (`specs/Category.antt`).
@@ -31,7 +33,7 @@ mod values;
 
 pub use category::Category;
 pub use derived::Derived;
-pub use draft::{Draft, SetFault};
+pub use draft::{Draft, MarkFault, SetFault};
 pub use index::{FIndex, VIndex};
 pub use law::{Event, Kind, Labels, Law, Triple};
 

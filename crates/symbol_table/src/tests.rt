@@ -1,6 +1,6 @@
 ghost use Rattle.std.specs.Prelude.{◌≡◌, IfOk};
 
-use crate::{Derived, Draft, FIndex, Labels, Law, SetFault, Triple, VIndex};
+use crate::{Derived, Draft, FIndex, Labels, Law, MarkFault, SetFault, Triple, VIndex};
 use fusion_rules::Rules;
 use ring_laws::{Int, Whole};
 use std::alloc::Global;
@@ -53,6 +53,20 @@ fn set_and_read(rt: HostRuntime) -> Result<(), Fail> {
 fn repeated(rt: HostRuntime) -> Result<(), Fail> {
     let mut draft = drafted(rt.alloc())?;
     assert_eq!(rt; draft.set_r(VERTEX, int(2)?), Err(SetFault::Repeated));
+    Ok(())
+}
+
+#[test]
+fn second_version(rt: HostRuntime) -> Result<(), Fail> {
+    let mut draft = Draft::new(rt.alloc(), Whole, Rules::new(2));
+    draft.second();
+    assert_eq!(rt; draft.version(), 2);
+    draft.set_twist(1, int(7)?)?;
+    draft.set_loop(1, int(9)?)?;
+    assert_eq!(rt; (draft.twist(0).get(), draft.loop_value(0).get()), (1, 1));
+    assert_eq!(rt; (draft.twist(1).get(), draft.loop_value(1).get()), (7, 9));
+    assert_eq!(rt; draft.set_twist(1, int(2)?), Err(MarkFault::Repeated));
+    assert_eq!(rt; (draft.has_twist(1), draft.has_loop(0)), (true, false));
     Ok(())
 }
 

@@ -1,10 +1,11 @@
 ghost use Rattle.std.specs.Prelude.{◌≡◌, IsTrue, Option, Some, None, true, unwrap_or, IsSomeAnd, OnOk, OnErr, if◌then◌else◌};
 ghost use Rattle.std.specs.Option.{ForSome, option_copied};
+ghost use Rattle.std.specs.Ordering.{nat_cmp};
 ghost use Rattle.std.specs.BTreeMap.{Updates, get, insert_entry};
-ghost use Rattle.symbol_table.specs.Draft.{Sets, set_fault};
+ghost use Rattle.symbol_table.specs.Draft.{Marks, Sets, mark_fault, set_fault};
 ghost use Rattle.symbol_table.specs.declared.draft.SetFault.TheVariants.{NotAdmissible, Repeated};
 
-use crate::draft::SetFault;
+use crate::draft::{MarkFault, SetFault};
 use ring_laws::StarRing;
 use std::alloc::AllocError;
 use std::collections::BTreeMap;
@@ -38,6 +39,23 @@ pub(crate) fn set_value<K: Ord + Drop, E: Drop>(
     match values.insert(key, value) {
         Ok(_) => Ok(()),
         Err(_) => Err(SetFault::Memory),
+    }
+}
+
+/// Sets the twist or the loop value of a label that has none.
+pub(crate) fn set_mark<E: Drop>(
+    values: &mut BTreeMap<u8, E>,
+    label: u8,
+    value: E,
+) -> Result<(), MarkFault>
+    ensures told { Marks result (mark_fault (get nat_cmp values.old label)) values.old.entries
+        values.new.entries (insert_entry nat_cmp values.old.entries label value) }
+    ensures updates { OnOk result (Updates nat_cmp values.old values.new label (Some value)) }
+{
+    match set_value(values, label, value) {
+        Ok(()) => Ok(()),
+        Err(SetFault::Memory) => Err(MarkFault::Memory),
+        Err(_) => Err(MarkFault::Repeated),
     }
 }
 

@@ -33,7 +33,7 @@ event kind law index = Some (record { kind = kind; law = law; index = index })
 
 -- two labels, the second times itself is the unit; no symbol is set
 abbrev plain : DraftValue ℕ ℤ
-plain = record { version = 1; ring = 0; rules = with_triple two_labels 1 1 0; set_f = []; set_r = []; set_w = []; set_v = [] }
+plain = record { version = 1; ring = 0; rules = with_triple two_labels 1 1 0; set_f = []; set_r = []; set_w = []; set_v = []; set_twist = []; set_loop = [] }
 
 pub no_event : weight_event whole_ring plain ≡ None
 no_event = refl

@@ -1,7 +1,8 @@
 //! The laws of single symbols and weights, checked in their order, with H and S where none has an event.
 //!
 //! Glossary:
-//! - *weight laws*: all laws but the pentagon and the hexagons, in the order of the check (`specs/Order.antt`).
+//! - *weight laws*: all laws of the first version but the pentagon and the hexagons, in the order of the check
+//!   (`specs/Order.antt`).
 //! - *tells*: what a check of laws answers, H and S or the first event (`derive_symbols`, `specs/Told.antt`).
 //! - *names no law*: an answer that is Ok, or want of memory (`specs/Answers.antt`).
 //!

@@ -4,7 +4,7 @@ use Rattle.category_text.proofs.line_reading.read_fusions.Given as goal
 
 abbrev pub invariant-loop-line : goal.invariant-loop-line
 invariant-loop-line l = record {
-  said : (ring : ℕ) → body_said (fusing ring l.names l.fn.rules) l.fn.lines.ahead ≡ body_said (fusing ring l.names l.rules) l.lines.ahead;
+  said : (version ring : ℕ) → body_said (fusing version ring l.names l.fn.rules) l.fn.lines.ahead ≡ body_said (fusing version ring l.names l.rules) l.lines.ahead;
   count : l.rules.count ≡ l.fn.rules.count;
 }
 

@@ -11,24 +11,27 @@ use Rattle.category_text.proofs.reading.read_category.Goals as goal
 pub returns-in_err-first-clause-category : goal.returns-in_err-first-clause-category
 returns-in_err-first-clause-category c =
     let p = err_from_is_err_and c.from_residual-in_err-first.result c.from_residual-in_err-first.ensures.1 in
-    rw (p.1, p.2) (whole_said c.args.bytes.now c.in_ok-ring.ring c.in_ok-ring.names c.read_head.new.lines.ahead c.new-rules.result c.count.result
-    (ap head_of (sym c.new-lines.ensures) ∙ c.in_ok-ring.ensures.head) c.new-rules.ensures.count c.count.ensures.count c.new-rules.ensures.triples
-    ∙ c.in_err-first.ensures.said c.in_ok-ring.ring)
+    let head = c.in_ok-head.head in
+    rw (p.1, p.2) (whole_said c.args.bytes.now head.version head.ring head.names c.read_head.new.lines.ahead c.new-rules.result c.count.result
+    (ap head_of (sym c.new-lines.ensures) ∙ c.in_ok-head.ensures.head) c.new-rules.ensures.count c.count.ensures.count c.new-rules.ensures.triples
+    ∙ c.in_err-first.ensures.said head.version head.ring)
 
 pub returns-in_err-read_symbols-clause-category : goal.returns-in_err-read_symbols-clause-category
 returns-in_err-read_symbols-clause-category c =
     let p = err_from_is_err_and c.from_residual-in_err-read_symbols.result c.from_residual-in_err-read_symbols.ensures.1 in
-    rw (p.1, p.2) (subst (Fails c.in_err-read_symbols.field-0.0) (sym (whole_said c.args.bytes.now c.in_ok-ring.ring c.in_ok-ring.names c.read_head.new.lines.ahead c.new-rules.result c.count.result
-    (ap head_of (sym c.new-lines.ensures) ∙ c.in_ok-ring.ensures.head) c.new-rules.ensures.count c.count.ensures.count c.new-rules.ensures.triples
-    ∙ c.in_ok-first.ensures.said c.in_ok-ring.ring
-    ∙ ap (λ (draft : DraftValue ℕ Ratio). body_said (setting c.in_ok-ring.names draft) (left_of c.in_ok-first.first c.read_fusions.new.lines.ahead)) (sym c.new-draft.ensures))) c.in_err-read_symbols.ensures.said)
+    let head = c.in_ok-head.head in
+    rw (p.1, p.2) (subst (Fails c.in_err-read_symbols.field-0.0) (sym (whole_said c.args.bytes.now head.version head.ring head.names c.read_head.new.lines.ahead c.new-rules.result c.count.result
+    (ap head_of (sym c.new-lines.ensures) ∙ c.in_ok-head.ensures.head) c.new-rules.ensures.count c.count.ensures.count c.new-rules.ensures.triples
+    ∙ c.in_ok-first.ensures.said head.version head.ring
+    ∙ ap (λ (draft : DraftValue ℕ Ratio). body_said (setting head.names draft) (left_of c.in_ok-first.first c.read_fusions.new.lines.ahead)) (sym c.begin-draft.ensures))) c.in_err-read_symbols.ensures.said)
 
 pub returns-clause-category : goal.returns-clause-category
 returns-clause-category c =
-    whole_said c.args.bytes.now c.in_ok-ring.ring c.in_ok-ring.names c.read_head.new.lines.ahead c.new-rules.result c.count.result
-    (ap head_of (sym c.new-lines.ensures) ∙ c.in_ok-ring.ensures.head) c.new-rules.ensures.count c.count.ensures.count c.new-rules.ensures.triples
-    ∙ c.in_ok-first.ensures.said c.in_ok-ring.ring
-    ∙ ap (λ (draft : DraftValue ℕ Ratio). body_said (setting c.in_ok-ring.names draft) (left_of c.in_ok-first.first c.read_fusions.new.lines.ahead)) (sym c.new-draft.ensures)
+    let head = c.in_ok-head.head in
+    whole_said c.args.bytes.now head.version head.ring head.names c.read_head.new.lines.ahead c.new-rules.result c.count.result
+    (ap head_of (sym c.new-lines.ensures) ∙ c.in_ok-head.ensures.head) c.new-rules.ensures.count c.count.ensures.count c.new-rules.ensures.triples
+    ∙ c.in_ok-first.ensures.said head.version head.ring
+    ∙ ap (λ (draft : DraftValue ℕ Ratio). body_said (setting head.names draft) (left_of c.in_ok-first.first c.read_fusions.new.lines.ahead)) (sym c.begin-draft.ensures)
     ∙ c.in_ok-read_symbols.ensures.said
 
 pub returns-clause-said : goal.returns-clause-said
