@@ -72,13 +72,7 @@ fn twist_left<R: StarRing>(draft: &Draft<R>, at: &[u8]) -> Result<R::Elem, Overf
     let &[a, b, c] = at else { unreachable!() };
     let over = draft.r_at(a, b, c);
     let back = draft.r_at(b, a, c);
-    product4(
-        draft.ring(),
-        &over,
-        &back,
-        &draft.twist(a),
-        &draft.twist(b),
-    )
+    product4(draft.ring(), &over, &back, &draft.twist(a), &draft.twist(b))
 }
 
 /// R(a,b,c) R(b,a,c) theta_a theta_b is theta_c, at the index a b c.
@@ -102,9 +96,7 @@ fn loop_product<R: StarRing>(draft: &Draft<R>, at: &[u8]) -> Result<R::Elem, Ove
     ensures member { IfOk result (λ v. IsTrue ((R.ring draft.now.ring).member v)) }
 {
     let &[a, b] = at else { unreachable!() };
-    draft
-        .ring()
-        .mul(&draft.loop_value(a), &draft.loop_value(b))
+    draft.ring().mul(&draft.loop_value(a), &draft.loop_value(b))
 }
 
 /// The sum with d_c at the index a b, or the sum alone where a and b don't make c.

@@ -78,7 +78,6 @@ module _ (names : List (List ℕ)) (all : all_names names ≡ true) where
   symbol_plain (OfV at) value labels w =
       let whole = word_before (codes "v") (name_of names at.a) (name_of names at.b ∷ name_of names at.c ∷ spelled_number value ∷ []) 1 722 (record { plain = refl; short = omega arith }) (vertex_line at.a at.b at.c (spelled_number value) labels w) in
       record { plain = whole.plain; counts = refl; short = omega (arith, whole.short) }
-
   symbol_plain (OfTwist a) value label w = mark_plain (codes "twist") a value (record { plain = refl; short = omega arith }) (λ more. refl) label w
   symbol_plain (OfLoop a) value label w = mark_plain (codes "loop") a value (record { plain = refl; short = omega arith }) (λ more. refl) label w
 

@@ -125,7 +125,11 @@ fn fault_of(draft: &Draft<Cyclo>, at: &Symbol) -> Option<SetFault>
 fn repeated(is_set: bool) -> Option<SetFault>
     ensures { result ≡ (if is_set then Some Repeated else None) }
 {
-    if is_set { Some(SetFault::Repeated) } else { None }
+    if is_set {
+        Some(SetFault::Repeated)
+    } else {
+        None
+    }
 }
 
 fn number(ring: &Cyclo, word: &[u8]) -> Result<Number, CategoryCause>

@@ -39,7 +39,8 @@ v t t 1 0,0,-1,-1
 // In the second version marks stand behind all symbols, in any order; those that are 1 have no line.
 #[test]
 fn second_version(rt: HostRuntime) -> Result<(), Fail> {
-    let text = b"category 2\nroot 4\nlabels 1 g\nfuse g g 1\nloop g -1\ntwist g 0,1\nr g g 1 0,1\nloop 1 1\n";
+    let text =
+        b"category 2\nroot 4\nlabels 1 g\nfuse g g 1\nloop g -1\ntwist g 0,1\nr g g 1 0,1\nloop 1 1\n";
     let canonical =
         b"category 2\nroot 4\nlabels 1 g\nfuse g g 1\nr g g 1 0,1\ntwist g 0,1\nloop g -1\n";
     let named = read_category(rt.alloc(), text)?;
