@@ -11,7 +11,7 @@ ghost use Rattle.symbol_table.specs.Draft.{given};
 ghost use Rattle.symbol_table.specs.Laws.{at1, at2, at3, mark_laws};
 ghost use Rattle.law_events.specs.Sides.{first_in, loop_f, loop_f_left, loop_sum, loop_sum_right, loop_sum_step, product4_at, twist, twist_left, unit_mark};
 ghost use Rattle.law_events.specs.Verdicts.{AllFit, AllHold};
-ghost use Rattle.category_gate.specs.Marks.{loop_product};
+ghost use Rattle.category_gate.specs.Marks.{loop_over, loop_product};
 
 use law_events::{check, compare};
 use ring_laws::{Overflow, StarRing, product3, sum_over_labels};
@@ -147,6 +147,25 @@ fn loop_sum<R: StarRing>(draft: &Draft<R>, at: &[u8]) -> Option<Kind>
     compare(draft.ring(), &product, &total)
 }
 
+/// d_a d_a F(a,b,a,a;1,1) H(a,b,a,a;1,1).
+fn loop_over<R: StarRing>(
+    draft: &Draft<R>,
+    derived: &Derived<R>,
+    a: u8,
+    b: u8,
+) -> Result<R::Elem, Overflow>
+    requires first { a < draft.now.rules.count }
+    requires second { b < draft.now.rules.count }
+    requires holds { HoldsSymbols (R.ring draft.now.ring) (given draft.now) derived.now }
+    ensures value { Gives result (loop_over (symbols R.StarRing draft.now) a b) }
+    ensures member { IfOk result (λ v. IsTrue ((R.ring draft.now.ring).member v)) }
+{
+    let loop_value = draft.loop_value(a);
+    let over = draft.f_at(a, b, a, a, 0, 0);
+    let back = derived.h_at(draft, a, b, a, a, 0, 0);
+    product4(draft.ring(), &loop_value, &loop_value, &over, &back)
+}
+
 /// d_a d_a F(a,a*,a,a;1,1) H(a,a*,a,a;1,1), at the index a.
 fn loop_f_left<R: StarRing>(
     draft: &Draft<R>,
@@ -161,11 +180,7 @@ fn loop_f_left<R: StarRing>(
     ensures member { IfOk result (λ v. IsTrue ((R.ring draft.now.ring).member v)) }
 {
     let &[a] = at else { unreachable!() };
-    let dual = draft.rules().dual(a);
-    let loop_value = draft.loop_value(a);
-    let over = draft.f_at(a, dual, a, a, 0, 0);
-    let back = derived.h_at(draft, a, dual, a, a, 0, 0);
-    product4(draft.ring(), &loop_value, &loop_value, &over, &back)
+    loop_over(draft, derived, a, draft.rules().dual(a))
 }
 
 /// The square of a loop value times F(a,a*,a,a;1,1) H(a,a*,a,a;1,1) is 1, at the index a.
