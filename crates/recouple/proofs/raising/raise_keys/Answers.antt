@@ -44,8 +44,8 @@ pub returns-in_err-value-clause-too_large : goal.returns-in_err-value-clause-too
 returns-in_err-value-clause-too_large g c _ = (
   c.new_key-key.result.items,
   c.requires.keys c.new_key-key.result.items
-  (ap (λ (k : List ℕ). among k (keys_of c.args.rotation.now c.args.amps.now c.args.sources.now)) c.new_key-key.ensures
-  ∙ among_item c.args.rotation.now c.args.amps.now c.args.sources.now c.loop-i.i none c.loop-i-test.true),
+      (ap (λ (k : List ℕ). among k (keys_of c.args.rotation.now c.args.amps.now c.args.sources.now)) c.new_key-key.ensures
+      ∙ among_item c.args.rotation.now c.args.amps.now c.args.sources.now c.loop-i.i none c.loop-i-test.true),
   c.in_err-value.ensures.value,
 )
 
