@@ -4,12 +4,12 @@ ghost use Rattle.std.specs.Prelude.{◌≡◌, ◌<◌, ◌++◌, ◌∷◌, [],
 ghost use Rattle.symbol_table.specs.Category.{symbols};
 ghost use Rattle.amp_store.specs.Gathered.{among};
 ghost use Rattle.recouple.specs.Rotations.{IsKey, IsPlace, IsRotation, after as spec_after};
-ghost use Rattle.recouple.specs.Raises.{AreOver, has_factor};
+ghost use Rattle.recouple.specs.Raises.{AreOver, has_factor as spec_has_factor};
 ghost use Rattle.recouple.specs.Targets.{key_at, keys_of, row_of, targets_of};
 
+use crate::factors::has_factor;
 use crate::keys::{after, order_of, order_step, set_label};
 use crate::rotation::Rotation;
-use crate::terms::is_source;
 use amp_store::{Amps, Key};
 use ring_laws::StarRing;
 use std::alloc::AllocError;
@@ -44,9 +44,9 @@ fn push_source<R: StarRing>(
     requires key { IsKey category.now.rules.count (length strands.now) key.now.items }
     requires label { source.from < category.now.rules.count }
     ensures { OnOk result (sources.new.items ≡ sources.old.items
-        ++ (if has_factor (symbols R.StarRing category.now) strands.now rotation.now key.now.items source.from then source ∷ [] else [])) }
+        ++ (if spec_has_factor (symbols R.StarRing category.now) strands.now rotation.now key.now.items source.from then source ∷ [] else [])) }
 {
-    if is_source(category, strands, rotation, key, source.from) {
+    if has_factor(category, strands, rotation, key, source.from) {
         sources.push(source)?;
     }
     Ok(())
