@@ -3,7 +3,6 @@
 ghost use Rattle.std.specs.Prelude.{◌≡◌, ◌<◌, ◌+◌, ◌-◌, IsTrue, All, length, slice_index, if◌then◌else◌};
 ghost use Rattle.symbol_table.specs.Category.{symbols};
 ghost use Rattle.symbol_table.specs.Draft.{f_index_admissible, given};
-ghost use Rattle.symbol_table.specs.Index.{AreSixLabels};
 ghost use Rattle.recouple.specs.Rotations.{IsKey, IsRotation, label_at as spec_label_at, from_left};
 ghost use Rattle.recouple.specs.Raises.{has_factor as spec_has_factor};
 

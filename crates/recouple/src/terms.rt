@@ -1,13 +1,11 @@
 //! The terms of a new amplitude.
 
-ghost use Rattle.std.specs.Prelude.{◌≡◌, ◌<◌, ◌+◌, ◌-◌, false, IsTrue, IfOk, All, length, slice_index, if◌then◌else◌};
+ghost use Rattle.std.specs.Prelude.{◌<◌, IsTrue, IfOk, All, length};
 ghost use Rattle.ring_laws.specs.Stated.{Gives};
 ghost use Rattle.symbol_table.specs.Category.{symbols};
-ghost use Rattle.symbol_table.specs.Draft.{f_index_admissible, given};
-ghost use Rattle.symbol_table.specs.Index.{AreSixLabels};
 ghost use Rattle.amp_store.specs.Amplitudes.{amplitude_of};
-ghost use Rattle.recouple.specs.Rotations.{IsKey, IsRotation, label_at as spec_label_at, from_left};
-ghost use Rattle.recouple.specs.Raises.{AreOver, factor as spec_factor, has_factor, raise_step, raised_at as spec_raised_at};
+ghost use Rattle.recouple.specs.Rotations.{IsKey, IsRotation};
+ghost use Rattle.recouple.specs.Raises.{AreOver, raise_step, raised_at as spec_raised_at};
 
 use crate::factors::{factor_at, index_of};
 use crate::keys::before;
