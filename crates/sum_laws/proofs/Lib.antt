@@ -1,0 +1,3 @@
+pub mod ListSums
+pub mod WordSums
+mod Worked
