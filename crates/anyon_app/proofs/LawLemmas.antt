@@ -112,7 +112,7 @@ rules_apart names (NotAssociative a b c d) report e = refused_apart _ report e
 rules_apart names (NoSingleDual a) report e = refused_apart _ report e
 
 -- Nothing decides exactly where there is neither a fault of the rules nor an event of the laws.
-record Nothing {A B : Type 0} (fault : Option A) (event : Option B) : Type 0 where
+pub record Nothing {A B : Type 0} (fault : Option A) (event : Option B) : Type 0 where
   pub no_fault : fault ≡ None
   pub no_event : event ≡ None
 

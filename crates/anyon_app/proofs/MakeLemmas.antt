@@ -1,5 +1,5 @@
 -- What the summary of made texts tells.
-use Rattle.std.proofs.Common.{◌≡◌, ℕ, ◌≤◌, List, length, map, Bool, true, false, ◌&&◌, nat_lt, if◌then◌else◌, Option, Some, None, Result, Ok, Err, refl, sym, ap, subst, ◌∙◌, arith}
+use Rattle.std.proofs.Common.{◌≡◌, ℕ, ◌≤◌, List, length, Bool, true, false, ◌&&◌, nat_lt, if◌then◌else◌, Option, Some, None, Result, Ok, Err, refl, sym, ap, subst, ◌∙◌, arith}
 use Rattle.std.specs.Prelude.{IsOkAnd}
 use Rattle.std.proofs.lemmas.Bool.Decides.{nat_tests}
 use Rattle.io_ports.specs.Ports.{Files}
@@ -31,13 +31,16 @@ use Rattle.outcome_report.specs.Summary.{summary_of}
 use Rattle.site_schedule.specs.Reading.{schedule_of}
 use Rattle.anyon_app.specs.declared.texts.Kind as text
 use Rattle.anyon_app.specs.declared.texts.Kind.TheVariants.{Category, Program as ProgramText, Schedule}
+use Rattle.anyon_app.specs.declared.stop.Stop.{Stop}
+use Rattle.anyon_app.specs.declared.stop.Stop.TheVariants.{RefusalLine, LimitLine, Unread, Memory}
 use Rattle.anyon_app.specs.Replies.{Reply, done}
+use Rattle.anyon_app.specs.Stages.{GivesUp}
 use Rattle.anyon_app.specs.Refusals.{number_line, stop_line, too_long}
 use Rattle.anyon_app.specs.Work.{Says, WantsNone, judged, reply_of, text_limit}
 use Rattle.anyon_app.specs.Categories.{named_of}
 use Rattle.anyon_app.specs.Verdicts.{category_verdict, symbols_in, unless}
 use Rattle.anyon_app.specs.Programs.{outcomes_by, outcomes_or, program_of_text, turns_of_text}
-use Rattle.anyon_app.specs.Make.{category_made, from_two, in_hand, made_of, make_work, number_of, program_made, size_verdict, turns_made}
+use Rattle.anyon_app.specs.Make.{category_made, from_two, in_hand, made_of, make_work, number_of, program_made, report_made, size_verdict, summary_made, turns_made}
 use Rattle.anyon_app.specs.Laws.{MakesRows}
 use Rattle.anyon_app.proofs.LawLemmas.{category_is, no_category, nothing_where, refused_apart, some_same, verdict_apart}
 use Rattle.anyon_app.proofs.RunLemmas.{no_program, no_schedule, program_is, stop_apart}
@@ -55,26 +58,29 @@ wants_none word = says_only (made_of word)
 abbrev NoReport : {A : Type 0} → Result A Reply → Type 0
 NoReport stated = (reply : Reply) (report : List ℕ) → stated ≡ Err reply → reply ≡ done report → ⊥
 
-no_then : {A B : Type 0} (stated : Result A Reply) (next : A → Result B Reply) → NoReport stated → ((x : A) → NoReport (next x)) → NoReport (stated >>= next)
-no_then (Ok x) next first later = later x
-no_then (Err reply) next first later = λ other report is e. first other report is e
+no_err : {A : Type 0} (line : Reply) → ((report : List ℕ) → line ≡ done report → ⊥) → NoReport {A = A} (Err line)
+no_err line apart reply report is e = let same : line ≡ reply = cc in apart report (same ∙ e)
 
 no_ok : {A : Type 0} (x : A) → NoReport (Ok x)
 no_ok x reply report is e = absurd cc
 
+no_then : {A B : Type 0} (stated : Result A Reply) (next : A → Result B Reply) → NoReport stated → ((x : A) → NoReport (next x)) → NoReport (stated >>= next)
+no_then (Ok x) next first later = later x
+no_then (Err line) next first later = no_err line (λ report e. first line report refl e)
+
 no_unless : (o : Option Reply) → ((reply : Reply) (report : List ℕ) → o ≡ Some reply → reply ≡ done report → ⊥) → NoReport (unless o)
-no_unless None no reply report is e = absurd cc
-no_unless (Some line) no reply report is e = let same : line ≡ reply = cc in no line report refl (same ∙ e)
+no_unless None apart = no_ok tt
+no_unless (Some line) apart = no_err line (λ report e. apart line report refl e)
 
 no_number : (word : List ℕ) → NoReport (number_of word)
 no_number word = along (plain_number_of word)
   where
     by_test : (b : Bool) (n : ℕ) → NoReport (if b then Ok n else Err number_line)
-    by_test true n reply report is e = absurd cc
-    by_test false n reply report is e = let same : number_line ≡ reply = cc in refused_apart _ report (same ∙ e)
+    by_test true n = no_ok n
+    by_test false n = no_err number_line (λ report e. refused_apart _ report e)
 
     along : (o : Option ℕ) → NoReport (from_two o)
-    along None reply report is e = let same : number_line ≡ reply = cc in refused_apart _ report (same ∙ e)
+    along None = no_err number_line (λ report e. refused_apart _ report e)
     along (Some n) = by_test (nat_lt 1 n && nat_lt n 13) n
 
 no_size : (kind : text.Kind) (text : List ℕ) → NoReport (unless (size_verdict kind text))
@@ -85,7 +91,7 @@ no_size kind text = no_unless (size_verdict kind text) (by_test (nat_lt text_lim
     by_test false reply report is e = absurd cc
 
 no_hand : {T : Type 0} (kind : text.Kind) (reader : List ℕ → Result T Reply) (text : List ℕ) → NoReport (reader text) → NoReport (in_hand kind reader text)
-no_hand kind reader text no = no_then (unless (size_verdict kind text)) (λ _. reader text) (no_size kind text) (λ _. no)
+no_hand kind reader text apart = no_then (unless (size_verdict kind text)) (λ _. reader text) (no_size kind text) (λ _. apart)
 
 no_category_made : (n : ℕ) → NoReport (category_made n)
 unfolding category_made
@@ -95,17 +101,20 @@ no_category_made n =
     (λ named. no_then (unless (category_verdict named)) _ (no_unless (category_verdict named) (verdict_apart named.names (rules_fault named.given.count named.given.fuse) (first_of_all (symbols_in named)))) (λ _. no_ok named))
 
 no_outcomes : {A : Type 0} (outcomes : Outcomes Ratio) (stated : Result A RunStop) → NoReport (outcomes_or outcomes stated)
-no_outcomes outcomes (Ok evaluated) reply report is e = absurd cc
-no_outcomes outcomes (Err stop) reply report is e = let same : stop_line stop ≡ reply = cc in stop_apart stop report (same ∙ e)
+no_outcomes outcomes (Ok evaluated) = no_ok outcomes
+no_outcomes outcomes (Err stop) = no_err (stop_line stop) (λ report e. stop_apart stop report e)
 
-no_report : (word : List ℕ) → NoReport (made_of word)
-unfolding made_of program_made turns_made
-no_report word =
-    no_then (number_of word) _ (no_number word) (λ n.
+no_report_made : (n : ℕ) → NoReport (report_made n)
+unfolding report_made program_made turns_made
+no_report_made n =
     no_then (category_made n) _ (no_category_made n) (λ named.
     no_then (program_made n named) _ (no_hand ProgramText (program_of_text ProgramText named) _ (no_program ProgramText (program_in named.names named.given.fuse (written (label_names n) (made_program n))))) (λ plan.
     no_then (turns_made plan) _ (no_hand Schedule (turns_of_text plan) made_schedule (no_schedule plan (schedule_of plan made_schedule))) (λ turns.
-    no_then (outcomes_by named plan turns) _ (no_outcomes _ (scheduled_weights (symbols_in named) plan turns)) (λ outcomes. no_ok _)))))
+    no_then (outcomes_by named plan turns) _ (no_outcomes _ (scheduled_weights (symbols_in named) plan turns)) (λ outcomes. no_ok _))))
+
+no_report : (word : List ℕ) → NoReport (made_of word)
+unfolding made_of
+no_report word = no_then (number_of word) report_made (no_number word) no_report_made
 
 -- What was passed on the way to a value.
 record Passed {A B : Type 0} (stated : Result A Reply) (next : A → Result B Reply) (value : B) : Type 0 where
@@ -117,7 +126,10 @@ pass : {A B : Type 0} (stated : Result A Reply) (next : A → Result B Reply) (v
 pass (Ok x) next value went = record { passed = x; is = refl; went = went }
 pass (Err reply) next value went = absurd cc
 
-ok_same : {A : Type 0} (x y : A) → Ok {A} {Reply} x ≡ Ok y → x ≡ y
+abbrev ok_of : {A : Type 0} → A → Result A Reply
+ok_of x = Ok x
+
+ok_same : {A : Type 0} (x y : A) → ok_of x ≡ ok_of y → x ≡ y
 ok_same x y e = cc
 
 none_where : (o : Option Reply) (x : Unit {0}) → unless o ≡ Ok x → o ≡ None
@@ -177,15 +189,15 @@ program_made_is n named plan same reads is =
     cc
 
 ended : (stated : Result (List ℕ) Reply) (files : Files) (report : List ℕ) → NoReport stated → reply_of (judged stated (λ r. Says (done r))) files ≡ Some (done report) → stated ≡ Ok report
-ended (Ok other) files report no went = ap Ok (ap (λ (r : Reply). r.bytes) (some_same _ (done report) went))
-ended (Err reply) files report no went = absurd (no reply report refl (some_same reply (done report) went))
+ended (Ok other) files report apart went = ap Ok (ap (λ (r : Reply). r.bytes) (some_same _ (done report) went))
+ended (Err reply) files report apart went = absurd (apart reply report refl (some_same reply (done report) went))
 
 outcomes_is : {A : Type 0} (outcomes other : Outcomes Ratio) (stated : Result A RunStop) → outcomes_or outcomes stated ≡ Ok other → outcomes ≡ other
 outcomes_is outcomes other (Ok evaluated) e = ok_same outcomes other e
 outcomes_is outcomes other (Err stop) e = absurd cc
 
 pub makes_rows : CategoriesRead → ProgramsRead → MakesRows
-unfolding make_work made_of
+unfolding make_work made_of report_made
 makes_rows categories programs files word report went =
     let end = ended (made_of word) files report (no_report word) went in
     let first = pass (number_of word) _ report end in
@@ -209,3 +221,17 @@ makes_rows categories programs files word report went =
           ∙ (ap (summary_of first.passed (length (commands_in third.passed.sites)) (measurements (commands_in third.passed.sites))) (sym outcomes)
           ∙ ap (λ (p : Program). summary_of first.passed (length (commands_in p.sites)) (measurements (commands_in p.sites)) (outcomes_of (symbols_in second.passed) p.start (commands_in p.sites))) plan);
     }
+
+-- a stop gives up what follows, too
+given_up : {A B : Type 0} (stated : Result A Reply) (next : A → Result B Reply) (stop : Stop) → GivesUp stop stated → GivesUp stop (stated >>= next)
+given_up stated next (RefusalLine line) up = ap (λ s. s >>= next) up
+given_up stated next (LimitLine line) up = ap (λ s. s >>= next) up
+given_up stated next Unread up = up
+given_up stated next Memory up = tt
+
+pub stops_at_turns : (n : ℕ) (named : NamedSymbols) (plan : Program) (stop : Stop) → category_made n ≡ Ok named → program_made n named ≡ Ok plan → GivesUp stop (turns_made plan) → GivesUp stop (report_made n)
+unfolding report_made
+stops_at_turns n named plan stop first second up =
+    let from_plan : Result Program Reply → Result (List ℕ) Reply = λ s. s >>= (λ p. turns_made p >>= (λ turns. summary_made n named p turns)) in
+    let from_named : Result NamedSymbols Reply → Result (List ℕ) Reply = λ s. s >>= (λ x. program_made n x >>= (λ p. turns_made p >>= (λ turns. summary_made n x p turns))) in
+    subst (GivesUp stop) (sym (ap from_named first ∙ ap from_plan second)) (given_up (turns_made plan) (λ turns. summary_made n named plan turns) stop up)

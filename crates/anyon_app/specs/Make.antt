@@ -1,5 +1,5 @@
 -- The command `make N`: its number, the texts that are made of it, how they are read, and its summary.
-use Rattle.std.specs.Prelude.{ℕ, ◌&&◌, List, [], ◌∷◌, length, nat_lt, if◌then◌else◌, codes, Option, Some, None, Result, Ok, Err}
+use Rattle.std.specs.Prelude.{ℕ, ◌&&◌, List, length, nat_lt, if◌then◌else◌, Option, Some, None, Result, Ok, Err}
 use Rattle.line_text.specs.Plain.{plain_number_of}
 use Rattle.category_text.specs.Canonical.{canonical}
 use Rattle.category_text.specs.Named.{NamedSymbols}
@@ -60,14 +60,17 @@ summary_made n named plan turns = do
   outcomes ← outcomes_by named plan turns
   Ok (summary_of n (length (commands_in plan.sites)) (measurements (commands_in plan.sites)) outcomes)
 
--- The number; the category of its text; what decides about it; the program, the schedule, and the summary of the rows.
-unfoldable pub made_of : List ℕ → Result (List ℕ) Reply
-made_of word = do
-  n ← number_of word
+-- The category of the text of n and what decides about it; the program, the schedule, and the summary of the rows.
+unfoldable pub report_made : ℕ → Result (List ℕ) Reply
+report_made n = do
   named ← category_made n
   plan ← program_made n named
   turns ← turns_made plan
   summary_made n named plan turns
+
+-- the number of a word, and the report of what is made of it
+unfoldable pub made_of : List ℕ → Result (List ℕ) Reply
+made_of word = number_of word >>= report_made
 
 -- no text of the shelf is wanted
 unfoldable pub make_work : List ℕ → Work

@@ -15,7 +15,7 @@ ghost use Rattle.program_text.specs.declared.form.TheConstants.{COMMAND_LIMIT};
 ghost use Rattle.outcome_rows.specs.Rows.{outcomes_in};
 ghost use Rattle.outcome_report.specs.Summary.{summary_of};
 ghost use Rattle.anyon_app.specs.Stages.{Gives};
-ghost use Rattle.anyon_app.specs.Make.{category_made, made_of, number_of, program_made, summary_made, turns_made};
+ghost use Rattle.anyon_app.specs.Make.{category_made, made_of, number_of, program_made, report_made, summary_made, turns_made};
 
 use crate::categories::category;
 use crate::judge::{Admitted, judge};
@@ -39,12 +39,7 @@ pub fn make(alloc: Global, word: &str) -> Result<Vec<u8>, Stop>
     ensures { Gives (λ report. report.items) result (made_of word.now) }
 {
     let numbered = texts_of(alloc, word)?;
-    let number = numbered.number;
-    let texts = numbered.texts;
-    let admitted = made_category(alloc, number, &texts.category)?;
-    let plan = made_program(alloc, number, &admitted, &texts.program)?;
-    let schedule = made_schedule(alloc, &plan, &texts.schedule)?;
-    made_summary(alloc, number, &admitted, &plan, &schedule)
+    report(alloc, numbered.number, &numbered.texts)
 }
 
 // A number from 2 to 12 and its texts.
@@ -69,6 +64,20 @@ fn texts_of(alloc: Global, word: &str) -> Result<Numbered, Stop>
         Err(MakeFault::Number) => Err(number_line(alloc)),
         Err(MakeFault::Memory) => Err(Stop::Memory),
     }
+}
+
+// The report of the run of the made texts.
+#[tactic(auto, unfolding(crate::specs::Make::report_made))]
+fn report(alloc: Global, number: u32, texts: &Made) -> Result<Vec<u8>, Stop>
+    requires category { texts.now.category.items ≡ canonical (made_category number) }
+    requires program { texts.now.program.items ≡ written (label_names number) (made_program number) }
+    requires schedule { texts.now.schedule.items ≡ made_schedule }
+    ensures { Gives (λ report. report.items) result (report_made number) }
+{
+    let admitted = made_category(alloc, number, &texts.category)?;
+    let plan = made_program(alloc, number, &admitted, &texts.program)?;
+    let schedule = made_schedule(alloc, &plan, &texts.schedule)?;
+    made_summary(alloc, number, &admitted, &plan, &schedule)
 }
 
 // The category of the made text, judged by its rules and its laws.
