@@ -1,0 +1,4 @@
+pub mod Category
+pub mod Images
+pub mod Mirrors
+pub mod Products
