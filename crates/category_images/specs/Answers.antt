@@ -22,8 +22,8 @@ abbrev pub symbols_of_root : DraftValue ℕ Ratio → Symbols Ratio
 symbols_of_root draft = draft_symbols (ring_at draft.ring) held draft
 
 -- A category over these numbers with these symbols was made, and every item fits.
-pub record IsMade (root : ℕ) (wanted : Symbols Ratio) (missing : Option Place) (made : DraftValue ℕ Ratio) : Type 0 where
-  pub root : made.ring ≡ root
+pub record IsMade (number : ℕ) (wanted : Symbols Ratio) (missing : Option Place) (made : DraftValue ℕ Ratio) : Type 0 where
+  pub root : made.ring ≡ number
   pub symbols : symbols_of_root made ≡ wanted
   pub fits : missing ≡ None
 
