@@ -159,11 +159,17 @@ where_ok (Err e) (Err d) same p f = tt
 pub refused : {T E : Type 0} (r : Result T E) (e : E) (old new text : List ℕ) → r ≡ Err e → take (length old) new ≡ old → Extends r old new text
 refused r e old new text is kept = rw is kept
 
--- the head, part by part
-pub head_is : (word : List ℕ) (root : ℕ) (names : List (List ℕ)) (a b c d e f g h : List ℕ) → b ≡ a ++ spelled ((codes "category" ∷ word ∷ []) ∷ []) → c ≡ b ++ codes "root" → d ≡ c ++ 32 ∷ decimal root → e ≡ d ++ 10 ∷ [] → f ≡ e ++ codes "labels" → g ≡ f ++ spaced_on names → h ≡ g ++ 10 ∷ []
+-- the line of the labels
+pub names_line_is : (names : List (List ℕ)) (e f g h : List ℕ) → f ≡ e ++ codes "labels" → g ≡ f ++ spaced_on names → h ≡ g ++ 10 ∷ [] → h ≡ e ++ spelled ((codes "labels" ∷ names) ∷ [])
+names_line_is names e f g h one two three = line_more (codes "labels") names e f g h one two three
+
+-- the line of the root
+pub root_line_is : (root : ℕ) (b c d e : List ℕ) → c ≡ b ++ codes "root" → d ≡ c ++ 32 ∷ decimal root → e ≡ d ++ 10 ∷ [] → e ≡ b ++ spelled ((codes "root" ∷ decimal root ∷ []) ∷ [])
+root_line_is root b c d e one two three = line_more (codes "root") (decimal root ∷ []) b c d e one (two ∙ ap (λ t. c ++ t) (sym (append-nil (32 ∷ decimal root)))) three
+
+-- the head, line by line
+pub head_is : (word : List ℕ) (root : ℕ) (names : List (List ℕ)) (a b e h : List ℕ) → b ≡ a ++ spelled ((codes "category" ∷ word ∷ []) ∷ []) → e ≡ b ++ spelled ((codes "root" ∷ decimal root ∷ []) ∷ []) → h ≡ e ++ spelled ((codes "labels" ∷ names) ∷ [])
     → h ≡ a ++ spelled ((codes "category" ∷ word ∷ []) ∷ (codes "root" ∷ decimal root ∷ []) ∷ (codes "labels" ∷ names) ∷ [])
-head_is word root names a b c d e f g h one two three four five six seven =
-    let last : h ≡ e ++ spelled ((codes "labels" ∷ names) ∷ []) = line_more (codes "labels") names e f g h five six seven in
-    let middle : e ≡ b ++ spelled ((codes "root" ∷ decimal root ∷ []) ∷ []) = line_more (codes "root") (decimal root ∷ []) b c d e two (three ∙ ap (λ t. c ++ t) (sym (append-nil (32 ∷ decimal root)))) four in
+head_is word root names a b e h one middle last =
     behind_again a b h (spelled ((codes "category" ∷ word ∷ []) ∷ [])) (spelled ((codes "root" ∷ decimal root ∷ []) ∷ []) ++ spelled ((codes "labels" ∷ names) ∷ [])) one (behind_again b e h (spelled ((codes "root" ∷ decimal root ∷ []) ∷ [])) (spelled ((codes "labels" ∷ names) ∷ [])) middle last)
     ∙ ap (λ t. a ++ t) (sym (spelled-append ((codes "category" ∷ word ∷ []) ∷ []) ((codes "root" ∷ decimal root ∷ []) ∷ (codes "labels" ∷ names) ∷ []) ∙ ap (λ t. spelled ((codes "category" ∷ word ∷ []) ∷ []) ++ t) (spelled-append ((codes "root" ∷ decimal root ∷ []) ∷ []) ((codes "labels" ∷ names) ∷ []))))

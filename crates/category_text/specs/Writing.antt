@@ -11,9 +11,14 @@ use Rattle.category_text.specs.declared.kind.VertexKind.{VertexKind}
 use Rattle.category_text.specs.declared.kind.VertexKind.TheVariants.{OnR, OnW, OnV}
 use Rattle.category_text.specs.declared.kind.Group.{Group}
 use Rattle.category_text.specs.declared.kind.Group.TheVariants.{Fusions, Vertices, FBehind}
-use Rattle.category_text.specs.Named.{NamedSymbols}
+use Rattle.category_text.specs.declared.writing.Parts.{Parts}
+use Rattle.category_text.specs.Named.{NamedSymbols, named_draft}
 use Rattle.category_text.specs.Canonical.{counting, behind, fuse_line, f_line, vertex_line, has_fuse_line, has_f_line, has_mark_line, has_vertex_line, head_lines, f_value, mark_line, mark_value, vertex_value}
 use Rattle.category_text.specs.Again.{IsNumberOf}
+
+-- what is named over a draft by references to both
+abbrev pub named_parts : Parts → NamedSymbols
+named_parts parts = named_draft parts.names.now parts.draft.now
 
 -- texts, one behind the other
 abbrev pub texts : {A : Type 0} → (A → List ℕ) → List A → List ℕ

@@ -39,7 +39,7 @@ pub use fault::{CategoryCause, CategoryFault};
 pub use laws::{canonical_texts, spelled_categories};
 pub use named::Named;
 pub use reading::read_category;
-pub use writing::write_category;
+pub use writing::{write_category, write_parts};
 
 #[cfg(test)]
 mod tests;

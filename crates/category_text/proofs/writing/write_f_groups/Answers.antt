@@ -1,14 +1,14 @@
 use Rattle.std.proofs.Common.{ℕ, ◌∙◌, length, ap, arith}
 use Rattle.fusion_rules.specs.Fusion.{Fusion}
 use Rattle.line_text.proofs.WritingLemmas.{front_more}
-use Rattle.category_text.specs.Named.{seen}
+use Rattle.category_text.specs.Writing.{named_parts}
 use Rattle.category_text.specs.Writing.{behind_text, plane, BehindNumber, InPlane}
 use Rattle.category_text.proofs.WritingLemmas.{texts_more, up_to_more}
 use Rattle.category_text.proofs.writing.write_f_groups.Goals as goal
 
 pub loop-a-preserved : goal.loop-a-preserved
 loop-a-preserved c = record {
-  text = texts_more (λ (k : ℕ). plane c.args.named.now.draft.rules.count (behind_text (seen c.args.named.now)) k) c.loop-a.a (length c.args.named.now.names) c.loop-a.text.items c.write_f_planes.new.text.items c.in_ok-write_f_planes.ensures.text (omega (arith, c.requires, ap (λ (r : Fusion). r.count) c.rules.ensures)) ∙ c.loop-a.invariant.text;
+  text = texts_more (λ (k : ℕ). plane c.args.parts.draft.now.rules.count (behind_text (named_parts c.args.parts)) k) c.loop-a.a (length c.args.parts.names.now) c.loop-a.text.items c.write_f_planes.new.text.items c.in_ok-write_f_planes.ensures.text (omega (arith, c.requires, ap (λ (r : Fusion). r.count) c.rules.ensures)) ∙ c.loop-a.invariant.text;
   front = front_more c.args.text.now.items c.loop-a.text.items _ c.write_f_planes.new.text.items c.loop-a.invariant.front c.in_ok-write_f_planes.ensures.text;
-  numbers = up_to_more (λ (k : ℕ). InPlane c.args.named.now.draft.rules.count (BehindNumber (seen c.args.named.now)) k) c.loop-a.a c.loop-a.invariant.numbers c.in_ok-write_f_planes.ensures.numbers;
+  numbers = up_to_more (λ (k : ℕ). InPlane c.args.parts.draft.now.rules.count (BehindNumber (named_parts c.args.parts)) k) c.loop-a.a c.loop-a.invariant.numbers c.in_ok-write_f_planes.ensures.numbers;
 }

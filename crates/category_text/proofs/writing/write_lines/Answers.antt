@@ -3,7 +3,7 @@ use Rattle.std.proofs.lemmas.Result.{err_from_is_err_and}
 use Rattle.std.proofs.Math.Seq.{take-length}
 use Rattle.line_text.proofs.WritingLemmas.{in_front, front_more}
 use Rattle.line_text.specs.Spelling.{spelled}
-use Rattle.category_text.specs.Named.{seen}
+use Rattle.category_text.specs.Writing.{named_parts}
 use Rattle.category_text.specs.Canonical.{head_lines}
 use Rattle.category_text.specs.Writing.{all_marks_text, behind_text, fuse_text, space, vertices_text}
 use Rattle.category_text.proofs.WritingLemmas.{behind_again, refused, written_is}
@@ -12,8 +12,8 @@ use Rattle.category_text.proofs.writing.write_lines.Goals as goal
 
 pub returns-clause-text : goal.returns-clause-text
 returns-clause-text c =
-    let named = seen c.args.named.now in
-    let n = c.args.named.now.draft.rules.count in
+    let named = named_parts c.args.parts in
+    let n = c.args.parts.draft.now.rules.count in
     let head = c.write_head.new.text.items in
     let fuses = c.write_group.new.text.items in
     let fs = c.write_f_groups.new.text.items in
@@ -25,7 +25,7 @@ returns-clause-text c =
 
 pub returns-clause-said : goal.returns-clause-said
 returns-clause-said c =
-    draft_said c.args.named.now.names c.args.named.now.draft c.in_ok-write_head.ensures.names c.requires c.in_ok-write_head.ensures.accepted c.in_ok-write_f_groups.ensures.rules
+    draft_said c.args.parts.names.now c.args.parts.draft.now c.in_ok-write_head.ensures.names c.requires c.in_ok-write_head.ensures.accepted c.in_ok-write_f_groups.ensures.rules
     c.in_ok-write_head.ensures.versioned
     (record { f = c.in_ok-write_f_groups.ensures.numbers; vertex = c.in_ok-write_vertices.ensures.numbers; mark = c.in_ok-write_all_marks.ensures.numbers })
 

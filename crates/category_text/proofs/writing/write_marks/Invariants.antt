@@ -1,12 +1,12 @@
 use Rattle.std.proofs.Common.{◌≡◌, ℕ, ◌<◌, ◌++◌, ◌-◌, length, take}
-use Rattle.category_text.specs.Named.{seen}
+use Rattle.category_text.specs.Writing.{named_parts}
 use Rattle.category_text.specs.Canonical.{counting}
 use Rattle.category_text.specs.Writing.{texts, mark_text, MarkNumber}
 use Rattle.category_text.proofs.writing.write_marks.Given as goal
 
 abbrev pub invariant-loop-a : goal.invariant-loop-a
 invariant-loop-a l = record {
-  text : l.text.items ++ texts (mark_text (seen l.named) l.kind) (counting l.a (length l.named.names - l.a)) ≡ l.fn.text.items ++ texts (mark_text (seen l.named) l.kind) (counting 0 (length l.named.names));
+  text : l.text.items ++ texts (mark_text (named_parts l.parts) l.kind) (counting l.a (length l.parts.names.now - l.a)) ≡ l.fn.text.items ++ texts (mark_text (named_parts l.parts) l.kind) (counting 0 (length l.parts.names.now));
   front : take (length l.fn.text.items) l.text.items ≡ l.fn.text.items;
-  numbers : (k : ℕ) → k < l.a → MarkNumber (seen l.named) l.kind k;
+  numbers : (k : ℕ) → k < l.a → MarkNumber (named_parts l.parts) l.kind k;
 }

@@ -2,15 +2,15 @@ use Rattle.std.proofs.lemmas.Result.{err_from_is_err_and}
 use Rattle.std.proofs.Math.Seq.{take-length}
 use Rattle.line_text.proofs.WritingLemmas.{in_front, front_more}
 use Rattle.category_text.specs.declared.kind.VertexKind.TheVariants.{OnR, OnW, OnV}
-use Rattle.category_text.specs.Named.{seen}
+use Rattle.category_text.specs.Writing.{named_parts}
 use Rattle.category_text.specs.Writing.{space, vertex_text}
 use Rattle.category_text.proofs.WritingLemmas.{behind_again, refused}
 use Rattle.category_text.proofs.writing.write_vertices.Goals as goal
 
 pub returns-clause-text : goal.returns-clause-text
 returns-clause-text c =
-    let named = seen c.args.named.now in
-    let n = c.args.named.now.draft.rules.count in
+    let named = named_parts c.args.parts in
+    let n = c.args.parts.draft.now.rules.count in
     behind_again c.args.text.now.items c.write_group.new.text.items _ (space n (vertex_text named OnR)) _ c.in_ok-write_group.ensures.text
     (behind_again c.write_group.new.text.items c.write_group-2.new.text.items _ (space n (vertex_text named OnW)) (space n (vertex_text named OnV)) c.in_ok-write_group-2.ensures.text c.in_ok-write_group-3.ensures.text)
 
