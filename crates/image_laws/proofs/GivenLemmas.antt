@@ -1,10 +1,17 @@
--- Symbols that are those of what gives them, as a category's are.
-use Rattle.std.proofs.Common.{◌≡◌, ℕ, Bool, true, false, Option, Some, None, List, refl, sym, ◌∙◌}
-use Rattle.std.specs.Prelude.{if◌then◌else◌, unwrap_or, nat_lt, IsTrue, IfSome}
+-- Symbols that are those of what gives them, as a category's are; and the laws of a version.
+use Rattle.std.proofs.Common.{◌≡◌, ℕ, Bool, true, false, ◌==◌, Option, Some, None, List, [], refl, sym, ◌∙◌}
+use Rattle.std.specs.Prelude.{All, if◌then◌else◌, unwrap_or, nat_lt, IsTrue, IfSome}
+use Rattle.std.specs.List.{AllByRecursion}
+use Rattle.std.proofs.lemmas.Bool.{eqb-true}
+use Rattle.std.proofs.lemmas.List.Elements.{All-from_recursion}
 use Rattle.std.proofs.lemmas.Map.Views.{IfSome-lookup_from_All}
 use Rattle.ring_laws.specs.Ring.{Ring, Held, RingLaws}
 use Rattle.ring_laws.proofs.SumLemmas.{if_no}
 use Rattle.symbol_table.specs.Symbols.{Given, Symbols, f_admissible, symbols_of}
+use Rattle.symbol_table.specs.Laws.{laws_of, mark_laws}
+use Rattle.symbol_table.specs.declared.law.Law.{Law}
+use Rattle.symbol_table.specs.declared.law.Law.TheVariants.{UnitF, UnitR, UnitW, RealW, InverseW, NormR, DeriveH, DeriveS, InverseF, InverseH, Rigid, Pentagon, HexagonOne, HexagonTwo, UnitTwist, Twist, UnitLoop, LoopSum, LoopF}
+use Rattle.symbol_table.proofs.LawLemmas.{InVersion}
 use Rattle.symbol_table.specs.Draft.{AreMembers, DraftValue, IsOver, mark_at}
 use Rattle.symbol_table.specs.Category.{draft_symbols}
 use Rattle.image_laws.specs.Category.{given_of}
@@ -111,3 +118,42 @@ module _ {E : Type 0} (ring : Ring E) (held : Held E) (laws : RingLaws ring held
     twist_is = λ a. marks_are draft.rules.count draft.set_twist a over.twist;
     loop_is = λ a. marks_are draft.rules.count draft.set_loop a over.loop_value;
   }
+
+-- what holds of every law that a version has holds of its laws
+pub all_in_version : (version : ℕ) (P : Law → Type 0) → ((law : Law) → InVersion version P law) → All P (laws_of version)
+all_in_version version P each =
+    All-from_recursion P (laws_of version) (
+      each UnitF,
+      (
+        each UnitR,
+        (
+          each UnitW,
+          (
+            each RealW,
+            (
+              each InverseW,
+              (
+                each NormR,
+                (
+                  each DeriveH,
+                  (
+                    each DeriveS,
+                    (
+                      each InverseF,
+                      (
+                        each InverseH,
+                        (each Rigid, (each Pentagon, (each HexagonOne, (each HexagonTwo, marks (version == 2) (eqb-true version 2))))),
+                      ),
+                    ),
+                  ),
+                ),
+              ),
+            ),
+          ),
+        ),
+      ),
+    )
+  where
+    marks : (b : Bool) → (b ≡ true → version ≡ 2) → AllByRecursion P (if b then mark_laws else [])
+    marks true second = let is = second refl in (each UnitTwist is, (each Twist is, (each UnitLoop is, (each LoopSum is, (each LoopF is, tt)))))
+    marks false second = tt

@@ -1,2 +1,5 @@
+pub mod DualLemmas
 pub mod GivenLemmas
 pub mod ImageLemmas
+pub mod InverseLemmas
+pub mod MirrorLemmas
