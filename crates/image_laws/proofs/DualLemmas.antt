@@ -1,8 +1,8 @@
 -- The label that is found as a dual fuses to the unit.
-use Rattle.std.proofs.Common.{◌≡◌, ℕ, zero, suc, ◌+◌, ◌<◌, Bool, true, false, Option, Some, None, refl, sym, ◌∙◌, true≢false}
+use Rattle.std.proofs.Common.{◌≡◌, ℕ, zero, suc, ◌+◌, ◌<◌, Bool, true, false, Option, Some, None, refl, sym, true≢false}
 use Rattle.std.specs.Prelude.{if◌then◌else◌, unwrap_or}
 use Rattle.std.specs.Option.{option_or}
-use Rattle.fusion_rules.specs.First.{first_from, first_below}
+use Rattle.fusion_rules.specs.First.{first_from}
 use Rattle.fusion_rules.specs.Check.{RulesPass, dual_of}
 use Rattle.fusion_rules.proofs.FaultLemmas.{none_below}
 

@@ -1,6 +1,6 @@
 -- The image of a category under a map of its ring that another one undoes is a category.
 use Rattle.std.proofs.Common.{◌≡◌, ◌≢◌, ℕ, zero, suc, Bool, true, false, List, refl, ap, sym, ◌∙◌}
-use Rattle.std.specs.Prelude.{All, IsTrue, if◌then◌else◌, ◌==◌, ◌||◌, slice_index}
+use Rattle.std.specs.Prelude.{IsTrue, if◌then◌else◌, ◌==◌, ◌||◌, slice_index}
 use Rattle.std.proofs.lemmas.List.Elements.{All-weaker}
 use Rattle.ring_laws.specs.Ring.{Held, RingLaws}
 use Rattle.ring_laws.specs.Sums.{total}
@@ -11,7 +11,6 @@ use Rattle.symbol_table.specs.AllLabels.{IsProper}
 use Rattle.symbol_table.specs.declared.law.Law.{Law}
 use Rattle.symbol_table.specs.declared.law.Law.TheVariants.{UnitF, UnitR, UnitW, RealW, InverseW, NormR, DeriveH, DeriveS, InverseF, InverseH, Rigid, Pentagon, HexagonOne, HexagonTwo, UnitTwist, Twist, UnitLoop, LoopSum, LoopF}
 use Rattle.cyclo_core.specs.ImageLaws.{IsStarMap}
-use Rattle.image_laws.specs.Category.{AreOfCategory}
 use Rattle.image_laws.specs.Images.{HasImages, IsUndoneBy, image_of}
 use Rattle.image_laws.proofs.GivenLemmas.{AreGiven, HasMarks, given_again, h_by, s_by}
 

@@ -3,3 +3,4 @@ pub mod GivenLemmas
 pub mod ImageLemmas
 pub mod InverseLemmas
 pub mod MirrorLemmas
+mod Worked
