@@ -19,6 +19,9 @@ pub fn images<R: StarRing>(category: &Category<R>)
     ensures { HasImages (symbols R.StarRing category.now) }
 {
     all_labels(category);
+    // These calls tell the proof that the draft is lawful and its values are of the ring.
+    let draft = category.draft();
+    let _members = draft.version();
 }
 
 /// The mirror of a category is a category, and its mirror is the first again.
@@ -29,6 +32,9 @@ pub fn mirrors<R: StarRing>(category: &Category<R>)
     ensures { HasMirror (symbols R.StarRing category.now) }
 {
     all_labels(category);
+    // These calls tell the proof that the draft is lawful and its values are of the ring.
+    let draft = category.draft();
+    let _members = draft.version();
 }
 
 /// The product of two categories of version 2 over one ring is a category.
