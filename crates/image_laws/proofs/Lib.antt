@@ -1,3 +1,5 @@
 pub mod Factors
 pub mod PairLemmas
+pub mod ProductLaws
 pub mod ProductRules
+pub mod Products
