@@ -1,5 +1,5 @@
 -- What a product takes from each of the two categories.
-use Rattle.std.proofs.Common.{◌≡◌, ℕ, Bool, true, false, sym}
+use Rattle.std.proofs.Common.{◌≡◌, ℕ, true, false}
 use Rattle.std.specs.Prelude.{nat_lt}
 use Rattle.ring_laws.specs.Ring.{Ring, Held}
 use Rattle.ring_laws.proofs.SumLemmas.{if_no, if_yes}

@@ -1,5 +1,5 @@
 -- The laws of a product: each equation is the product of those of both.
-use Rattle.std.proofs.Common.{◌≡◌, ℕ, ◌*◌, ◌<◌, Bool, true, false, ◌&&◌, ◌||◌, ◌==◌, [], ◌∷◌, List, length, refl, ap, ap₂, sym, ◌∙◌, arith, inl, inr, true≢false}
+use Rattle.std.proofs.Common.{◌≡◌, ℕ, ◌*◌, ◌<◌, Bool, true, false, ◌&&◌, ◌||◌, ◌==◌, [], ◌∷◌, List, length, refl, ap, ap₂, sym, ◌∙◌, arith}
 use Rattle.std.specs.Prelude.{◌/◌, ◌%◌, ◌≢◌, All, slice_index, if◌then◌else◌}
 use Rattle.std.proofs.Math.Nat.{zero-div, zero-mod}
 use Rattle.std.proofs.lemmas.Nat.{mod_below}
@@ -10,8 +10,8 @@ use Rattle.ring_laws.specs.Sums.{total}
 use Rattle.ring_laws.proofs.SumLemmas.{total_same, zero-product, and_yes}
 use Rattle.fusion_rules.specs.Check.{RulesPass, dual_of}
 use Rattle.symbol_table.specs.Symbols.{Symbols, f_admissible}
-use Rattle.symbol_table.specs.Laws.{Holds, Same, LawHolds, IsLawful, where_so, identity_at, pentagon_says, hexagon_says, laws_of, fuse_all, pentagon_triples}
-use Rattle.symbol_table.specs.AllLabels.{goes_left, goes_right, mark}
+use Rattle.symbol_table.specs.Laws.{Holds, Same, LawHolds, IsLawful, where_so, identity_at, pentagon_says, hexagon_says, laws_of}
+use Rattle.symbol_table.specs.AllLabels.{mark}
 use Rattle.symbol_table.specs.declared.law.Law.{Law}
 use Rattle.symbol_table.specs.declared.law.Law.TheVariants.{UnitF, UnitR, UnitW, RealW, InverseW, NormR, DeriveH, DeriveS, InverseF, InverseH, Rigid, Pentagon, HexagonOne, HexagonTwo, UnitTwist, Twist, UnitLoop, LoopSum, LoopF}
 use Rattle.symbol_table.proofs.LawLemmas.{obeys, all_of}

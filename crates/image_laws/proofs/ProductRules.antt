@@ -1,5 +1,5 @@
 -- The rules of pairs of labels pass, and the dual of a pair is the pair of duals.
-use Rattle.std.proofs.Common.{◌≡◌, ℕ, ◌+◌, ◌*◌, ◌<◌, Bool, true, ◌&&◌, ap, ap₂, sym, subst, ◌∙◌}
+use Rattle.std.proofs.Common.{◌≡◌, ℕ, ◌+◌, ◌*◌, ◌<◌, Bool, ◌&&◌, ap, ap₂, sym, subst, ◌∙◌}
 use Rattle.std.specs.Prelude.{◌/◌, ◌%◌}
 use Rattle.std.proofs.Math.Nat.{zero-div, zero-mod}
 use Rattle.std.proofs.lemmas.Nat.{div-mul-add, mod-mul-add, div-add-mod', mod_below}

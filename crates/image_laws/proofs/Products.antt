@@ -1,12 +1,11 @@
 -- The product of two categories is one.
-use Rattle.std.proofs.Common.{◌≡◌, ℕ, ◌*◌, ◌<◌, ◌≤◌, Bool, true, false, ◌&&◌, refl, ap, ap₂, sym, ◌∙◌, arith, inl, inr}
+use Rattle.std.proofs.Common.{◌≡◌, ℕ, ◌*◌, ◌≤◌, Bool, true, false, refl, ap, ap₂, sym, ◌∙◌, arith, inl, inr}
 use Rattle.std.specs.Prelude.{◌/◌, ◌%◌, nat_lt, if◌then◌else◌}
 use Rattle.std.proofs.Math.Nat.{le-div_iff_mul-le}
-use Rattle.std.proofs.lemmas.Nat.{mod_below}
 use Rattle.std.proofs.lemmas.Bool.Decides.{nat_tests}
 use Rattle.ring_laws.specs.Ring.{Held, RingLaws}
 use Rattle.ring_laws.proofs.SumLemmas.{if_no, if_yes, true_or_false, zero-product}
-use Rattle.symbol_table.specs.Symbols.{Given, Symbols, f_admissible, f_of, h_of, mark_of, s_of, symbols_of, vertex_of}
+use Rattle.symbol_table.specs.Symbols.{Given, Symbols, f_admissible, f_of, h_of, mark_of, s_of, vertex_of}
 use Rattle.symbol_table.proofs.RuleLemmas.{both}
 use Rattle.image_laws.specs.Category.{AreOfCategory, given_of}
 use Rattle.image_laws.specs.Products.{product_of}
