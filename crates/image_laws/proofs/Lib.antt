@@ -3,3 +3,4 @@ pub mod PairLemmas
 pub mod ProductLaws
 pub mod ProductRules
 pub mod Products
+mod WorkedProducts

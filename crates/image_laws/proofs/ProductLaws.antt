@@ -39,7 +39,7 @@ four p q r s h =
     let three = both r (s && true) two.1 in
     (one.0, two.0, three.0, lone s three.1)
 
--- the first label of an index is a label
+-- each label of an index is below the count
 low_at : (n : ℕ) (i : List ℕ) (k : ℕ) → k < length i → All (λ t. t < n) i → slice_index i k < n
 low_at n i k within below = below k 0 within
 
