@@ -47,6 +47,9 @@ pub fn products<R: StarRing>(one: &Category<R>, two: &Category<R>)
     requires second { two.now.version ≡ 2 }
     ensures { AreOfCategory (product_of (symbols R.StarRing one.now) (symbols R.StarRing two.now)) }
 {
+    // These calls tell the proof that both drafts are lawful, and what their symbols obey at all labels.
+    let _first = one.draft();
+    let _second = two.draft();
     all_labels(one);
     all_labels(two);
 }
