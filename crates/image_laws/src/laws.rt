@@ -19,6 +19,9 @@ pub fn images<R: StarRing>(category: &Category<R>)
     ensures { HasImages (symbols R.StarRing category.now) }
 {
     all_labels(category);
+    // These calls tell the proof that the draft is lawful and its values are of the ring.
+    let draft = category.draft();
+    let _members = draft.version();
 }
 
 /// The mirror of a category is a category, and its mirror is the first again.
@@ -29,6 +32,9 @@ pub fn mirrors<R: StarRing>(category: &Category<R>)
     ensures { HasMirror (symbols R.StarRing category.now) }
 {
     all_labels(category);
+    // These calls tell the proof that the draft is lawful and its values are of the ring.
+    let draft = category.draft();
+    let _members = draft.version();
 }
 
 /// The product of two categories of version 2 over one ring is a category.
@@ -41,6 +47,9 @@ pub fn products<R: StarRing>(one: &Category<R>, two: &Category<R>)
     requires second { two.now.version ≡ 2 }
     ensures { AreOfCategory (product_of (symbols R.StarRing one.now) (symbols R.StarRing two.now)) }
 {
+    // These calls tell the proof that both drafts are lawful, and what their symbols obey at all labels.
+    let _first = one.draft();
+    let _second = two.draft();
     all_labels(one);
     all_labels(two);
 }
