@@ -85,18 +85,18 @@ leads_on long reader next files name text value there short reads =
     ∙ ap (λ r. reply_of (judged r next) files) reads
 
 -- what a category text is read as
-pub category_is : (r : Result NamedSymbols Fault) (named : NamedSymbols) → named_or r ≡ Ok named → r ≡ Ok named
+pub category_is : (r : Result NamedSymbols Fault) (named : NamedSymbols) → named_or Category r ≡ Ok named → r ≡ Ok named
 category_is (Ok other) named e = let same : other ≡ named = cc in ap Ok same
 category_is (Err fault) named e = absurd cc
 
 pub no_category : (text : List ℕ) (reply : Reply) (report : List ℕ) → named_of text ≡ Err reply → reply ≡ done report → ⊥
 no_category text reply report is e = along (category_of text) is
   where
-    along : (r : Result NamedSymbols Fault) → named_or r ≡ Err reply → ⊥
+    along : (r : Result NamedSymbols Fault) → named_or Category r ≡ Err reply → ⊥
     along (Ok named) is = absurd cc
     along (Err fault) is =
-        let same : category_line fault.line fault.cause ≡ reply = cc in
-        refused_apart (category_line fault.line fault.cause).bytes report (same ∙ e)
+        let same : category_line Category fault.line fault.cause ≡ reply = cc in
+        refused_apart (category_line Category fault.line fault.cause).bytes report (same ∙ e)
 
 pub too_long_apart : (report : List ℕ) → too_long Category ≡ done report → ⊥
 too_long_apart report e = refused_apart _ report e
@@ -170,7 +170,7 @@ unfolding check_work
 lawful_is_accepted said files name named is lawful fits =
     let none = complete (ring_at named.root) held (ring_at_laws named.root) named.given (of_ring named (said is.text named is.reads)) lawful fits in
     leads_on (too_long Category) named_of (λ named. judged (unless (category_verdict named)) (λ _. Says (done (accepted named)))) files name is.text named is.there is.short
-    (ap named_or is.reads)
+    (ap (named_or Category) is.reads)
     ∙ ap (λ u. reply_of (judged u (λ _. Says (done (accepted named)))) files)
     (nothing_decides named.names (rules_fault named.given.count named.given.fuse) (first_of_all (symbols_in named)) none.0 none.1)
 
@@ -204,7 +204,7 @@ unfolding format_work
 format_settles settled files later name other report went there short =
     let first = was_formatted files name report went in
     let again = ok_with (category_of (canonical first.named)) (λ y. canonical y ≡ canonical first.named) (settled first.is.text first.named first.is.reads) in
-    let reads : named_of report ≡ Ok again.value = ap named_of (sym first.report_is) ∙ ap named_or again.is in
+    let reads : named_of report ≡ Ok again.value = ap named_of (sym first.report_is) ∙ ap (named_or Category) again.is in
     leads_on (too_long Category) named_of (λ named. Says (done (canonical named))) later other report again.value there short reads
     ∙ ap (λ b. Some (done b)) (again.holds ∙ first.report_is)
 

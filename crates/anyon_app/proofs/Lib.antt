@@ -8,4 +8,5 @@ pub mod LawLemmas
 pub mod RunLemmas
 pub mod LinkedLemmas
 mod MakeLemmas
+mod NewLemmas
 mod Worked

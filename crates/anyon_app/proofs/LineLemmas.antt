@@ -19,3 +19,11 @@ pub limit_line : (others : List (List ℕ)) → line_of (codes "limit overflow" 
 limit_line others =
     ap (λ l. l ++ 10 ∷ []) (spaced-cons (codes "limit overflow") others)
     ∙ ap (λ l. (codes "limit" ++ 32 ∷ l) ++ 10 ∷ []) (sym (spaced-cons (codes "overflow") others))
+
+-- the words of a place behind those of its command
+pub place_line_is : (command word : List ℕ) (labels : List (List ℕ))
+    → ((((codes "limit overflow " ++ command) ++ 32 ∷ []) ++ word) ++ spaced_on labels) ++ 10 ∷ [] ≡ line_of (codes "limit" ∷ codes "overflow" ∷ command ∷ word ∷ labels)
+place_line_is command word labels =
+    begun_line (codes "limit overflow " ++ command) word labels
+    ∙ ap (λ l. l ++ 10 ∷ []) (spaced-cons (codes "limit overflow " ++ command) (word ∷ labels) ∙ append_assoc (codes "limit overflow ") command (spaced_on (word ∷ labels)))
+    ∙ ap (λ l. l ++ 10 ∷ []) (sym (spaced-cons (codes "limit") (codes "overflow" ∷ command ∷ word ∷ labels)))

@@ -2,13 +2,18 @@
 use Rattle.std.specs.Prelude.{ℕ, List, Result, Ok, Err}
 use Rattle.category_text.specs.Named.{NamedSymbols}
 use Rattle.category_text.specs.Reading.{Fault, category_of}
+use Rattle.anyon_app.specs.declared.texts.Kind as text
+use Rattle.anyon_app.specs.declared.texts.Kind.TheVariants.{Category}
 use Rattle.anyon_app.specs.Replies.{Reply}
 use Rattle.anyon_app.specs.Refusals.{category_line}
 
--- the category of a text, or the reply at its first fault
-abbrev pub named_or : Result NamedSymbols Fault → Result NamedSymbols Reply
-named_or (Ok named) = Ok named
-named_or (Err fault) = Err (category_line fault.line fault.cause)
+-- the category of a text of a kind, or the reply at its first fault
+abbrev pub named_or : text.Kind → Result NamedSymbols Fault → Result NamedSymbols Reply
+named_or kind (Ok named) = Ok named
+named_or kind (Err fault) = Err (category_line kind fault.line fault.cause)
+
+abbrev pub named_as : text.Kind → List ℕ → Result NamedSymbols Reply
+named_as kind text = named_or kind (category_of text)
 
 abbrev pub named_of : List ℕ → Result NamedSymbols Reply
-named_of text = named_or (category_of text)
+named_of = named_as Category

@@ -6,6 +6,8 @@ use Rattle.cyclo_text.specs.declared.fault.NumberWord.{NumberWord}
 use Rattle.cyclo_text.specs.declared.fault.NumberWord.TheVariants.{Spelling, TooManyParts, TooBig, ZeroDenominator}
 use Rattle.category_text.specs.declared.fault.CategoryCause.{CategoryCause}
 use Rattle.category_text.specs.declared.fault.CategoryCause.TheVariants.{Line, Header, Root, Labels, Limit, Repeated, Misplaced, Word, Short, Long, UnknownLabel, UnitFuse, NotAdmissible, Number}
+use Rattle.marks_text.specs.declared.fault.MarksCause.{MarksCause}
+use Rattle.marks_text.specs.declared.fault.MarksCause.TheVariants as marks
 use Rattle.word_moves.specs.declared.fault.MovesCause.{MovesCause}
 use Rattle.word_moves.specs.declared.fault.MovesCause.TheVariants as moves
 use Rattle.program_text.specs.declared.fault.ProgramCause.{ProgramCause}
@@ -36,6 +38,16 @@ category_cause UnknownLabel = codes "unknown label"
 category_cause UnitFuse = codes "unit fuse"
 category_cause NotAdmissible = codes "not admissible"
 category_cause (Number cause) = number_cause cause
+
+abbrev pub marks_cause : MarksCause → List ℕ
+marks_cause (marks.Line cause) = line_cause cause
+marks_cause marks.Header = codes "header"
+marks_cause marks.Word = codes "word"
+marks_cause marks.Short = codes "short"
+marks_cause marks.Long = codes "long"
+marks_cause marks.UnknownLabel = codes "unknown label"
+marks_cause marks.Repeated = codes "repeated"
+marks_cause (marks.Number cause) = number_cause cause
 
 abbrev pub moves_cause : MovesCause → List ℕ
 moves_cause (moves.Line cause) = line_cause cause

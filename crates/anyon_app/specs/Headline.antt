@@ -8,7 +8,7 @@ use Rattle.io_ports.specs.Ports.{Files, Rose, WhereTold}
 use Rattle.anyon_app.specs.declared.status.Status.{Status}
 use Rattle.anyon_app.specs.declared.status.Status.TheVariants.{Done, Refused, Usage, WriteFault, Limit}
 use Rattle.anyon_app.specs.declared.top.Command.{Command}
-use Rattle.anyon_app.specs.declared.top.Command.TheVariants.{Check, Comb, Format, Linked, Make, Run, RunBy, Trees, TreesBy}
+use Rattle.anyon_app.specs.declared.top.Command.TheVariants.{Check, Comb, Format, Galois, Linked, Make, Mirror, Product, Run, RunBy, Trees, TreesBy, Upgrade}
 use Rattle.anyon_app.specs.Replies.{Reply}
 use Rattle.anyon_app.specs.Work.{Work, Says, reply_of, Reaches, Names}
 use Rattle.anyon_app.specs.Check.{check_work}
@@ -16,20 +16,27 @@ use Rattle.anyon_app.specs.Comb.{comb_work}
 use Rattle.anyon_app.specs.Format.{format_work}
 use Rattle.anyon_app.specs.Linked.{linked_work}
 use Rattle.anyon_app.specs.Make.{make_work}
+use Rattle.anyon_app.specs.NewCategories.{galois_work, mirror_work, product_work}
 use Rattle.anyon_app.specs.Run.{run_work, run_by_work}
 use Rattle.anyon_app.specs.Trees.{trees_work, trees_by_work}
+use Rattle.anyon_app.specs.Upgrade.{upgrade_work}
 
--- what words of a listed form ask for: `check CAT`, `format CAT`, `make N`, `comb CAT PROG`, `run CAT PROG`, `trees CAT PROG`,
--- `run CAT PROG SCHED`, `trees CAT PROG SCHED` or `linked CAT PROG PROG MOVES`
+-- what words of a listed form ask for: `check CAT`, `format CAT`, `mirror CAT`, `make N`, `upgrade CAT MARKS`, `galois CAT K`,
+-- `product CAT CAT`, `comb CAT PROG`, `run CAT PROG`, `trees CAT PROG`, `run CAT PROG SCHED`, `trees CAT PROG SCHED` or
+-- `linked CAT PROG PROG MOVES`
 unfoldable pub command_in : List (List ℕ) → Option Work
 command_in (command ∷ first ∷ []) =
     if bytes_eq command (codes "check") then Some (check_work first) else
     (if bytes_eq command (codes "format") then Some (format_work first) else
-    (if bytes_eq command (codes "make") then Some (make_work first) else None))
+    (if bytes_eq command (codes "mirror") then Some (mirror_work first) else
+    (if bytes_eq command (codes "make") then Some (make_work first) else None)))
 command_in (command ∷ first ∷ second ∷ []) =
-    if bytes_eq command (codes "comb") then Some (comb_work first second) else
+    if bytes_eq command (codes "upgrade") then Some (upgrade_work first second) else
+    (if bytes_eq command (codes "galois") then Some (galois_work first second) else
+    (if bytes_eq command (codes "product") then Some (product_work first second) else
+    (if bytes_eq command (codes "comb") then Some (comb_work first second) else
     (if bytes_eq command (codes "run") then Some (run_work first second) else
-    (if bytes_eq command (codes "trees") then Some (trees_work first second) else None))
+    (if bytes_eq command (codes "trees") then Some (trees_work first second) else None)))))
 command_in (command ∷ first ∷ second ∷ third ∷ []) =
     if bytes_eq command (codes "run") then Some (run_by_work first second third) else
     (if bytes_eq command (codes "trees") then Some (trees_by_work first second third) else None)
@@ -40,7 +47,11 @@ command_in words = None
 unfoldable pub command_work : Command → Work
 command_work (Check category) = check_work category.now
 command_work (Format category) = format_work category.now
+command_work (Mirror category) = mirror_work category.now
 command_work (Make number) = make_work number.now
+command_work (Upgrade category marks) = upgrade_work category.now marks.now
+command_work (Galois category number) = galois_work category.now number.now
+command_work (Product first second) = product_work first.now second.now
 command_work (Comb category program) = comb_work category.now program.now
 command_work (Run category program) = run_work category.now program.now
 command_work (Trees category program) = trees_work category.now program.now

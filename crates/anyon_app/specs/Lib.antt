@@ -10,8 +10,10 @@ pub mod Programs
 pub mod Comb
 pub mod Run
 pub mod Trees
+pub mod Upgrade
 pub mod Linked
 pub mod Make
+pub mod NewCategories
 pub mod Check
 pub mod Format
 pub mod Headline

@@ -19,13 +19,16 @@ use Rattle.anyon_app.specs.declared.texts.Kind.TheVariants.{Category, Program as
 use Rattle.anyon_app.specs.Replies.{Reply}
 use Rattle.anyon_app.specs.Refusals.{program_line, schedule_line, stop_line, too_long}
 use Rattle.anyon_app.specs.Work.{Work, read_work, judged}
-use Rattle.anyon_app.specs.Categories.{named_of}
+use Rattle.anyon_app.specs.Categories.{named_as}
 use Rattle.anyon_app.specs.Verdicts.{category_verdict, symbols_in, unless}
 
--- the category of a text; what decides about it
+-- the category of a text of a kind; what decides about it
+abbrev pub admitted_as : text.Kind → List ℕ → (NamedSymbols → Work) → Work
+admitted_as kind category next =
+    read_work (too_long kind) (named_as kind) category (λ named. judged (unless (category_verdict named)) (λ _. next named))
+
 abbrev pub admitted_work : List ℕ → (NamedSymbols → Work) → Work
-admitted_work category next =
-    read_work (too_long Category) named_of category (λ named. judged (unless (category_verdict named)) (λ _. next named))
+admitted_work = admitted_as Category
 
 -- the program of a text of this kind, or the reply at its first fault
 abbrev pub program_or : text.Kind → Result Program Fault → Result Program Reply

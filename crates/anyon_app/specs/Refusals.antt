@@ -7,7 +7,7 @@ use Rattle.symbol_table.specs.declared.law.Kind.{Kind}
 use Rattle.symbol_table.specs.declared.law.Kind.TheVariants.{Fails, Overflow}
 use Rattle.symbol_table.specs.declared.law.Event.{Event}
 use Rattle.anyon_app.specs.declared.texts.Kind as text
-use Rattle.anyon_app.specs.declared.texts.Kind.TheVariants.{Category, Program, SecondProgram, Schedule, Moves}
+use Rattle.anyon_app.specs.declared.texts.Kind.TheVariants.{Category, SecondCategory, Program, SecondProgram, Schedule, Moves, Marks}
 use Rattle.category_text.specs.declared.fault.CategoryCause.{CategoryCause}
 use Rattle.word_runs.specs.declared.fault.RunStop.{RunStop}
 use Rattle.outcome_report.specs.Labels.{label_names}
@@ -20,23 +20,29 @@ use Rattle.site_schedule.specs.declared.fault.ScheduleFault.TheVariants as sched
 use Rattle.word_moves.specs.declared.fault.MovesCause.{MovesCause}
 use Rattle.word_moves.specs.declared.moves.Verdict.{Verdict}
 use Rattle.word_moves.specs.declared.moves.Verdict.TheVariants as verdict
-use Rattle.anyon_app.specs.Causes.{category_cause, line_cause, moves_cause, program_cause}
+use Rattle.category_images.specs.declared.place.Place.{Place}
+use Rattle.category_images.specs.declared.place.Symbol.{Symbol}
+use Rattle.category_images.specs.declared.place.Symbol.TheVariants.{F, R, W, V, H, S, Twist, Loop}
+use Rattle.marks_text.specs.declared.fault.MarksCause.{MarksCause}
+use Rattle.anyon_app.specs.Causes.{category_cause, line_cause, marks_cause, moves_cause, program_cause}
 
 -- the word for a text of a kind
 abbrev pub kind_word : text.Kind → List ℕ
 kind_word Category = codes "category"
+kind_word SecondCategory = codes "second category"
 kind_word Program = codes "program"
 kind_word SecondProgram = codes "second program"
 kind_word Schedule = codes "schedule"
 kind_word Moves = codes "moves"
+kind_word Marks = codes "marks"
 
 -- a line of a text that its grammar refuses, with the words of its cause
 abbrev pub refused_line : text.Kind → ℕ → List ℕ → Reply
 refused_line kind line cause = refusal_of (kind_word kind ∷ codes "line" ∷ decimal line ∷ cause ∷ [])
 
 -- a line of a category text, with its cause
-abbrev pub category_line : ℕ → CategoryCause → Reply
-category_line line cause = refused_line Category line (category_cause cause)
+abbrev pub category_line : text.Kind → ℕ → CategoryCause → Reply
+category_line kind line cause = refused_line kind line (category_cause cause)
 
 -- a line of a program text, with its cause
 abbrev pub program_line : text.Kind → ℕ → ProgramCause → Reply
@@ -59,6 +65,43 @@ schedule_line sites schedule.Memory = refusal_of (kind_word Schedule ∷ [])
 -- a line of a moves text, with its cause
 abbrev pub moves_line : ℕ → MovesCause → Reply
 moves_line line cause = refused_line Moves line (moves_cause cause)
+
+-- a line of a marks text, with its cause
+abbrev pub marks_line : ℕ → MarksCause → Reply
+marks_line line cause = refused_line Marks line (marks_cause cause)
+
+-- a category that has version 2 already
+abbrev pub version_line : Reply
+version_line = refusal_of (codes "version" ∷ [])
+
+-- a word that is no exponent of the root
+abbrev pub exponent_line : Reply
+exponent_line = refusal_of (codes "exponent" ∷ [])
+
+-- two categories that have no product: one has version 1, their roots differ, or there are too many pairs of labels
+abbrev pub product_version_line : Reply
+product_version_line = refusal_of (codes "product" ∷ codes "version" ∷ [])
+
+abbrev pub product_roots_line : ℕ → ℕ → Reply
+product_roots_line first second = refusal_of (codes "product" ∷ codes "roots" ∷ decimal first ∷ decimal second ∷ [])
+
+abbrev pub product_labels_line : ℕ → Reply
+product_labels_line count = refusal_of (codes "product" ∷ codes "labels" ∷ decimal count ∷ [])
+
+-- the word for a symbol of a new category
+abbrev pub symbol_word : Symbol → List ℕ
+symbol_word F = codes "f"
+symbol_word R = codes "r"
+symbol_word W = codes "w"
+symbol_word V = codes "v"
+symbol_word H = codes "h"
+symbol_word S = codes "s"
+symbol_word Twist = codes "twist"
+symbol_word Loop = codes "loop"
+
+-- a symbol of a new category that doesn't fit, after the word of the command that makes it
+abbrev pub place_line : List ℕ → List (List ℕ) → Place → Reply
+place_line command names place = limit_of (codes "overflow" ∷ command ∷ symbol_word place.symbol ∷ label_names names place.index)
 
 -- what isn't linked, with a number
 abbrev pub not_linked : List ℕ → ℕ → Reply

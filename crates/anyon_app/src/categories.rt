@@ -4,7 +4,7 @@ ghost use Rattle.category_text.specs.Named.{seen};
 ghost use Rattle.anyon_app.specs.Work.{read_work};
 ghost use Rattle.anyon_app.specs.Stages.{Gives, Passes};
 ghost use Rattle.anyon_app.specs.Refusals.{too_long};
-ghost use Rattle.anyon_app.specs.Categories.{named_of};
+ghost use Rattle.anyon_app.specs.Categories.{named_as};
 
 use crate::refusals::category_line;
 use crate::stop::Stop;
@@ -13,24 +13,29 @@ use category_text::{CategoryFault, Named, read_category};
 use io_ports::Shelf;
 use std::alloc::Global;
 
-/// The category of a text of at most 4,194,304 bytes. Neither its rules nor its symbols are judged.
-pub fn load_category<S: Shelf>(alloc: Global, shelf: &mut S, name: &str) -> Result<Named, Stop>
-    ensures passes { Passes S.files S.faults shelf.old shelf.new seen (read_work (too_long Kind.Category) named_of name.now) result }
+/// The category of a text of this kind, of at most 4,194,304 bytes. Neither its rules nor its symbols are judged.
+pub fn load_category<S: Shelf>(
+    alloc: Global,
+    shelf: &mut S,
+    kind: Kind,
+    name: &str,
+) -> Result<Named, Stop>
+    ensures passes { Passes S.files S.faults shelf.old shelf.new seen (read_work (too_long kind) (named_as kind) name.now) result }
     ensures counts { IfOk result (λ named. length named.names ≡ named.draft.rules.count) }
 {
-    let text = text(alloc, shelf, Kind::Category, name)?;
-    category(alloc, &text)
+    let text = text(alloc, shelf, kind, name)?;
+    category(alloc, kind, &text)
 }
 
 /// The category of these bytes.
-pub fn category(alloc: Global, text: &[u8]) -> Result<Named, Stop>
+pub fn category(alloc: Global, kind: Kind, text: &[u8]) -> Result<Named, Stop>
     requires { length text.now < 2 ^ 32 - 1 }
-    ensures gives { Gives seen result (named_of text.now) }
+    ensures gives { Gives seen result (named_as kind text.now) }
     ensures counts { IfOk result (λ named. length named.names ≡ named.draft.rules.count) }
 {
     match read_category(alloc, text) {
         Ok(named) => Ok(named),
-        Err(CategoryFault::At { line, cause }) => Err(category_line(alloc, line, cause)),
+        Err(CategoryFault::At { line, cause }) => Err(category_line(alloc, kind, line, cause)),
         Err(CategoryFault::Memory) => Err(Stop::Memory),
     }
 }

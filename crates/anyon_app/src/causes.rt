@@ -1,10 +1,11 @@
 // The causes of refused lines, as they are written.
 ghost use Rattle.std.specs.Prelude.{◌≡◌};
-ghost use Rattle.anyon_app.specs.Causes.{category_cause, line_cause, moves_cause, number_cause};
+ghost use Rattle.anyon_app.specs.Causes.{category_cause, line_cause, marks_cause, moves_cause, number_cause};
 
 use category_text::CategoryCause;
 use cyclo_text::NumberWord;
 use line_text::LineCause;
+use marks_text::MarksCause;
 use word_moves::MovesCause;
 
 /// The words of a cause that any text can have.
@@ -48,6 +49,22 @@ pub fn category_words(cause: CategoryCause) -> &'static str
         CategoryCause::UnitFuse => "unit fuse",
         CategoryCause::NotAdmissible => "not admissible",
         CategoryCause::Number(cause) => number_words(cause),
+    }
+}
+
+/// The words of a cause of a marks text.
+pub fn marks_words(cause: MarksCause) -> &'static str
+    ensures { result.now ≡ marks_cause cause }
+{
+    match cause {
+        MarksCause::Line(cause) => line_words(cause),
+        MarksCause::Header => "header",
+        MarksCause::Word => "word",
+        MarksCause::Short => "short",
+        MarksCause::Long => "long",
+        MarksCause::UnknownLabel => "unknown label",
+        MarksCause::Repeated => "repeated",
+        MarksCause::Number(cause) => number_words(cause),
     }
 }
 

@@ -8,6 +8,7 @@ use crate::categories::load_category;
 use crate::judge::{Admitted, judge};
 use crate::lines::line;
 use crate::stop::Stop;
+use crate::texts::Kind;
 use io_ports::Shelf;
 use itoa::Buffer;
 use std::alloc::Global;
@@ -17,7 +18,7 @@ use std::alloc::Global;
 pub fn check<S: Shelf>(alloc: Global, shelf: &mut S, category: &str) -> Result<Vec<u8>, Stop>
     ensures { Worked S.files S.faults shelf.old shelf.new (check_work category.now) result }
 {
-    let named = load_category(alloc, shelf, category)?;
+    let named = load_category(alloc, shelf, Kind::Category, category)?;
     let admitted = judge(alloc, named)?;
     accepted(alloc, &admitted)
 }

@@ -32,7 +32,7 @@ pub fn comb<S: Shelf>(
 ) -> Result<Vec<u8>, Stop>
     ensures { Worked S.files S.faults shelf.old shelf.new (comb_work category.now program.now) result }
 {
-    let admitted = load_admitted(alloc, shelf, category)?;
+    let admitted = load_admitted(alloc, shelf, Kind::Category, category)?;
     let plan = load_program(alloc, shelf, Kind::Program, &admitted, program)?;
     comb_start(alloc, &plan)?;
     rows(alloc, &admitted, &plan)

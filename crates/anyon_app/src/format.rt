@@ -7,6 +7,7 @@ ghost use Rattle.anyon_app.specs.Format.{format_work};
 
 use crate::categories::load_category;
 use crate::stop::Stop;
+use crate::texts::Kind;
 use category_text::{Named, write_category};
 use io_ports::Shelf;
 use std::alloc::Global;
@@ -16,12 +17,12 @@ use std::alloc::Global;
 pub fn format<S: Shelf>(alloc: Global, shelf: &mut S, category: &str) -> Result<Vec<u8>, Stop>
     ensures { Worked S.files S.faults shelf.old shelf.new (format_work category.now) result }
 {
-    let named = load_category(alloc, shelf, category)?;
+    let named = load_category(alloc, shelf, Kind::Category, category)?;
     canonical_text(alloc, &named)
 }
 
-// The canonical text of a category.
-fn canonical_text(alloc: Global, named: &Named) -> Result<Vec<u8>, Stop>
+/// The canonical text of a category.
+pub fn canonical_text(alloc: Global, named: &Named) -> Result<Vec<u8>, Stop>
     requires { length named.now.names ≡ named.now.draft.rules.count }
     ensures { Gives (λ text. text.items) result (Ok (canonical (seen named.now))) }
 {

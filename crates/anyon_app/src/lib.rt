@@ -24,6 +24,7 @@ mod laws;
 mod lines;
 mod linked;
 mod make;
+mod new_categories;
 mod programs;
 mod refusals;
 mod run;
@@ -32,6 +33,7 @@ mod stop;
 mod texts;
 mod top;
 mod trees;
+mod upgrade;
 
 pub use laws::{category_replies, linked_replies, make_replies, over_sure_shelf, run_replies};
 pub use status::Status;

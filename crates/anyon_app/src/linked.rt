@@ -30,7 +30,7 @@ pub fn linked<S: Shelf>(
 ) -> Result<Vec<u8>, Stop>
     ensures { Worked S.files S.faults shelf.old shelf.new (linked_work category.now first.now second.now moves.now) result }
 {
-    let admitted = load_admitted(alloc, shelf, category)?;
+    let admitted = load_admitted(alloc, shelf, Kind::Category, category)?;
     let from = load_program(alloc, shelf, Kind::Program, &admitted, first)?;
     let to = load_program(alloc, shelf, Kind::SecondProgram, &admitted, second)?;
     let moves = load_moves(alloc, shelf, moves)?;

@@ -88,7 +88,7 @@ fn made_category(alloc: Global, number: u32, text: &[u8]) -> Result<Admitted, St
     ensures counts { IfOk result (λ admitted. length admitted.names ≡ admitted.category.rules.count) }
 {
     within_limit(alloc, Kind::Category, text)?;
-    let named = category(alloc, text)?;
+    let named = category(alloc, Kind::Category, text)?;
     judge(alloc, named)
 }
 

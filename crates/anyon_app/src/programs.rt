@@ -9,7 +9,7 @@ ghost use Rattle.anyon_app.specs.Stages.{Gives, Passes};
 ghost use Rattle.outcome_rows.specs.Rows.{outcomes_in};
 ghost use Rattle.outcome_report.specs.Report.{report_of};
 ghost use Rattle.site_schedule.specs.Legal.{IsLegal, IsWellFormed};
-ghost use Rattle.anyon_app.specs.Programs.{admitted_work, outcomes_by, program_of_text, program_work, scheduled_work, turns_of_program, turns_of_text};
+ghost use Rattle.anyon_app.specs.Programs.{admitted_as, outcomes_by, program_of_text, program_work, scheduled_work, turns_of_program, turns_of_text};
 
 use crate::categories::load_category;
 use crate::judge::{Admitted, judge};
@@ -26,12 +26,17 @@ use site_schedule::{Schedule, read_schedule, text_order};
 use std::alloc::Global;
 use word_runs::RunFault;
 
-/// The category of a text, judged by its rules and its laws.
-pub fn load_admitted<S: Shelf>(alloc: Global, shelf: &mut S, name: &str) -> Result<Admitted, Stop>
-    ensures passes { Passes S.files S.faults shelf.old shelf.new (λ admitted. named_draft admitted.names admitted.category) (admitted_work name.now) result }
+/// The category of a text of this kind, judged by its rules and its laws.
+pub fn load_admitted<S: Shelf>(
+    alloc: Global,
+    shelf: &mut S,
+    kind: Kind,
+    name: &str,
+) -> Result<Admitted, Stop>
+    ensures passes { Passes S.files S.faults shelf.old shelf.new (λ admitted. named_draft admitted.names admitted.category) (admitted_as kind name.now) result }
     ensures counts { IfOk result (λ admitted. length admitted.names ≡ admitted.category.rules.count) }
 {
-    let named = load_category(alloc, shelf, name)?;
+    let named = load_category(alloc, shelf, kind, name)?;
     judge(alloc, named)
 }
 

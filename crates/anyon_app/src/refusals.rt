@@ -2,15 +2,18 @@
 ghost use Rattle.std.specs.Prelude.{◌≡◌, ◌∷◌, [], IfOk, codes, map, slice_index_or, string_bytes};
 ghost use Rattle.anyon_app.specs.Stages.{Gives, StopsWith};
 ghost use Rattle.anyon_app.specs.Verdicts.{unless};
-ghost use Rattle.anyon_app.specs.Refusals.{category_line, comb_start_line, event_line, event_words, kind_word, moves_line, not_linked, number_line, program_line, refused_line, rules_line, schedule_line, stop_line, too_long, turn_line, verdict_line};
+ghost use Rattle.anyon_app.specs.Refusals.{category_line, comb_start_line, event_line, event_words, exponent_line, kind_word, marks_line, moves_line, not_linked, number_line, place_line, product_labels_line, product_roots_line, product_version_line, program_line, refused_line, rules_line, schedule_line, stop_line, symbol_word, too_long, turn_line, verdict_line, version_line};
 ghost use Rattle.anyon_app.specs.Lines.{line_of, refusal_of};
+ghost use Rattle.outcome_report.specs.Labels.{label_names};
 
-use crate::causes::{category_words, line_words, moves_words};
+use crate::causes::{category_words, line_words, marks_words, moves_words};
 use crate::stop::{Stop, limit, refusal};
 use crate::texts::Kind;
+use category_images::{Place, Symbol};
 use category_text::CategoryCause;
 use fusion_rules::{Names, RulesFault};
 use itoa::Buffer;
+use marks_text::MarksCause;
 use outcome_report::write_labels;
 use program_text::{ProgramCause, Site};
 use site_schedule::ScheduleFault;
@@ -36,10 +39,103 @@ fn refused_line(alloc: Global, kind: Kind, line: u32, cause: &'static str) -> St
 }
 
 /// The stop at a line of a category text.
-pub fn category_line(alloc: Global, line: u32, cause: CategoryCause) -> Stop
-    ensures { StopsWith (category_line line cause) result }
+pub fn category_line(alloc: Global, kind: Kind, line: u32, cause: CategoryCause) -> Stop
+    ensures { StopsWith (category_line kind line cause) result }
 {
-    refused_line(alloc, Kind::Category, line, category_words(cause))
+    refused_line(alloc, kind, line, category_words(cause))
+}
+
+/// The stop at a line of a marks text.
+pub fn marks_line(alloc: Global, line: u32, cause: MarksCause) -> Stop
+    ensures { StopsWith (marks_line line cause) result }
+{
+    refused_line(alloc, Kind::Marks, line, marks_words(cause))
+}
+
+/// The stop at a category that has version 2 already.
+pub fn version_line(alloc: Global) -> Stop
+    ensures { StopsWith version_line result }
+{
+    refusal(alloc, &["version"])
+}
+
+/// The stop at a word that is no exponent of the root.
+pub fn exponent_line(alloc: Global) -> Stop
+    ensures { StopsWith exponent_line result }
+{
+    refusal(alloc, &["exponent"])
+}
+
+/// The stop at two categories of which one has version 1.
+pub fn product_version_line(alloc: Global) -> Stop
+    ensures { StopsWith product_version_line result }
+{
+    refusal(alloc, &["product", "version"])
+}
+
+/// The stop at two categories of different roots.
+pub fn product_roots_line(alloc: Global, first: u8, second: u8) -> Stop
+    ensures { StopsWith (product_roots_line first second) result }
+{
+    let mut first_digits = Buffer::new();
+    let mut second_digits = Buffer::new();
+    let first = first_digits.format(first);
+    let second = second_digits.format(second);
+    refusal(alloc, &["product", "roots", first, second])
+}
+
+/// The stop at two categories that have too many pairs of labels.
+pub fn product_labels_line(alloc: Global, count: u32) -> Stop
+    ensures { StopsWith (product_labels_line count) result }
+{
+    let mut buffer = Buffer::new();
+    let count = buffer.format(count);
+    refusal(alloc, &["product", "labels", count])
+}
+
+/// The word for a symbol of a new category.
+fn symbol_word(symbol: Symbol) -> &'static str
+    ensures { result.now ≡ symbol_word symbol }
+{
+    match symbol {
+        Symbol::F => "f",
+        Symbol::R => "r",
+        Symbol::W => "w",
+        Symbol::V => "v",
+        Symbol::H => "h",
+        Symbol::S => "s",
+        Symbol::Twist => "twist",
+        Symbol::Loop => "loop",
+    }
+}
+
+/// The stop at a symbol that doesn't fit, of a category that a command makes.
+pub fn place_line(alloc: Global, command: &str, names: &Names, place: &Place) -> Stop
+    ensures { StopsWith (place_line command.now names.now place.now) result }
+{
+    match place_text(alloc, command, names, place) {
+        Ok(line) => Stop::LimitLine(line),
+        Err(_) => Stop::Memory,
+    }
+}
+
+// The line of a symbol that doesn't fit.
+#[tactic(auto, using(crate::proofs::LineLemmas::place_line_is))]
+fn place_text(
+    alloc: Global,
+    command: &str,
+    names: &Names,
+    place: &Place,
+) -> Result<Vec<u8>, AllocError>
+    ensures { IfOk result (λ line. line.items ≡ line_of (codes "limit" ∷ codes "overflow" ∷ command.now ∷ symbol_word place.now.symbol ∷ label_names names.now place.now.index)) }
+{
+    let mut line = Vec::from_slice(alloc, b"limit overflow ")?;
+    line.extend_from_slice(command.as_bytes())?;
+    line.push(b' ')?;
+    line.extend_from_slice(symbol_word(place.symbol).as_bytes())?;
+    write_labels(names, place.index.as_slice(), &mut line)?;
+    line.push(b'\n')?;
+    Ok(line)
 }
 
 /// The stop at a line of a program text.

@@ -29,7 +29,7 @@ pub fn run<S: Shelf>(
 ) -> Result<Vec<u8>, Stop>
     ensures { Worked S.files S.faults shelf.old shelf.new (run_work category.now program.now) result }
 {
-    let admitted = load_admitted(alloc, shelf, category)?;
+    let admitted = load_admitted(alloc, shelf, Kind::Category, category)?;
     let plan = load_program(alloc, shelf, Kind::Program, &admitted, program)?;
     let schedule = text_schedule(alloc, &plan)?;
     rows(alloc, &admitted, &plan, &schedule)
@@ -45,7 +45,7 @@ pub fn run_by<S: Shelf>(
 ) -> Result<Vec<u8>, Stop>
     ensures { Worked S.files S.faults shelf.old shelf.new (run_by_work category.now program.now schedule.now) result }
 {
-    let admitted = load_admitted(alloc, shelf, category)?;
+    let admitted = load_admitted(alloc, shelf, Kind::Category, category)?;
     let plan = load_program(alloc, shelf, Kind::Program, &admitted, program)?;
     let schedule = load_schedule(alloc, shelf, &plan, schedule)?;
     rows(alloc, &admitted, &plan, &schedule)

@@ -15,10 +15,12 @@ use std::alloc::Global;
 #[derive(Clone, Copy, Debug, PartialEq, Eq)]
 pub enum Kind {
     Category,
+    SecondCategory,
     Program,
     SecondProgram,
     Schedule,
     Moves,
+    Marks,
 }
 
 impl Kind {
@@ -28,10 +30,12 @@ impl Kind {
     {
         match self {
             Kind::Category => "category",
+            Kind::SecondCategory => "second category",
             Kind::Program => "program",
             Kind::SecondProgram => "second program",
             Kind::Schedule => "schedule",
             Kind::Moves => "moves",
+            Kind::Marks => "marks",
         }
     }
 }

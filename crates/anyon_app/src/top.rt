@@ -11,18 +11,27 @@ use crate::comb::comb;
 use crate::format::format;
 use crate::linked::linked;
 use crate::make::make;
+use crate::new_categories::{galois, mirror, product};
 use crate::run::{run, run_by};
 use crate::trees::{trees, trees_by};
+use crate::upgrade::upgrade;
 use crate::{Status, Stop};
 use io_ports::{Shelf, Sink, put_all};
 use std::alloc::Global;
 
 /// Does what the words of the command line say, the words after the program's name.
 ///
-/// `check CAT` reads the category text of this name and judges its rules and laws. `format CAT` reads
-/// such a text and writes its canonical text. `comb CAT PROG` judges a category too, reads a program
-/// text, and writes the total and the rows of the program on left-combed paths. A text has at most
-/// 4,194,304 bytes. All other words are `Usage`. Whatever is written is built whole before its first
+/// - `check CAT` reads the category text of this name and judges its rules and laws; `format CAT` writes its canonical
+///   text without judging it.
+/// - `upgrade CAT MARKS` brings a category of version 1 to version 2 by its twists and loop values. `galois CAT K`,
+///   `mirror CAT` and `product CAT CAT` judge the categories and write the canonical text of a new one.
+/// - `run CAT PROG [SCHED]` judges a category, reads a program over it, and writes the total and the rows of the program
+///   on trees, by the schedule or in the order of the text; `trees` with the same words writes the final states; `comb CAT
+///   PROG` runs on left-combed paths.
+/// - `linked CAT PROG PROG MOVES` tells whether the moves lead from one program to the other. `make N` makes a category, a
+///   program and a schedule from a number and writes a summary of their run.
+///
+/// A text has at most 4,194,304 bytes. All other words are `Usage`. Whatever is written is built whole before its first
 /// byte is written.
 ///
 /// - `Done`, `Refused`, `Limit`: the whole reply was written.
@@ -81,7 +90,11 @@ pub fn anyon<S: Shelf, W: Sink>(
 enum Command<'a> {
     Check(&'a str),
     Format(&'a str),
+    Mirror(&'a str),
     Make(&'a str),
+    Upgrade(&'a str, &'a str),
+    Galois(&'a str, &'a str),
+    Product(&'a str, &'a str),
     Comb(&'a str, &'a str),
     Run(&'a str, &'a str),
     Trees(&'a str, &'a str),
@@ -102,7 +115,19 @@ fn command_of(words: &[String]) -> Option<Command<'_>>
         [command, category] if command.as_str() == "format" => {
             Some(Command::Format(category.as_str()))
         }
+        [command, category] if command.as_str() == "mirror" => {
+            Some(Command::Mirror(category.as_str()))
+        }
         [command, number] if command.as_str() == "make" => Some(Command::Make(number.as_str())),
+        [command, category, marks] if command.as_str() == "upgrade" => {
+            Some(Command::Upgrade(category.as_str(), marks.as_str()))
+        }
+        [command, category, number] if command.as_str() == "galois" => {
+            Some(Command::Galois(category.as_str(), number.as_str()))
+        }
+        [command, first, second] if command.as_str() == "product" => {
+            Some(Command::Product(first.as_str(), second.as_str()))
+        }
         [command, category, program] if command.as_str() == "comb" => {
             Some(Command::Comb(category.as_str(), program.as_str()))
         }
@@ -135,7 +160,11 @@ fn work<S: Shelf>(alloc: Global, command: Command<'_>, shelf: &mut S) -> Result<
     match command {
         Command::Check(category) => check(alloc, shelf, category),
         Command::Format(category) => format(alloc, shelf, category),
+        Command::Mirror(category) => mirror(alloc, shelf, category),
         Command::Make(number) => make(alloc, number),
+        Command::Upgrade(category, marks) => upgrade(alloc, shelf, category, marks),
+        Command::Galois(category, number) => galois(alloc, shelf, category, number),
+        Command::Product(first, second) => product(alloc, shelf, first, second),
         Command::Comb(category, program) => comb(alloc, shelf, category, program),
         Command::Run(category, program) => run(alloc, shelf, category, program),
         Command::Trees(category, program) => trees(alloc, shelf, category, program),

@@ -34,7 +34,7 @@ pub fn trees<S: Shelf>(
 ) -> Result<Vec<u8>, Stop>
     ensures { Worked S.files S.faults shelf.old shelf.new (trees_work category.now program.now) result }
 {
-    let admitted = load_admitted(alloc, shelf, category)?;
+    let admitted = load_admitted(alloc, shelf, Kind::Category, category)?;
     let plan = load_program(alloc, shelf, Kind::Program, &admitted, program)?;
     let schedule = text_schedule(alloc, &plan)?;
     states(alloc, &admitted, &plan, &schedule)
@@ -50,7 +50,7 @@ pub fn trees_by<S: Shelf>(
 ) -> Result<Vec<u8>, Stop>
     ensures { Worked S.files S.faults shelf.old shelf.new (trees_by_work category.now program.now schedule.now) result }
 {
-    let admitted = load_admitted(alloc, shelf, category)?;
+    let admitted = load_admitted(alloc, shelf, Kind::Category, category)?;
     let plan = load_program(alloc, shelf, Kind::Program, &admitted, program)?;
     let schedule = load_schedule(alloc, shelf, &plan, schedule)?;
     states(alloc, &admitted, &plan, &schedule)

@@ -1,7 +1,6 @@
 use Rattle.std.proofs.lemmas.Result.{err_from_is_err_and}
-use Rattle.anyon_app.specs.declared.texts.Kind.TheVariants.{Category}
 use Rattle.anyon_app.specs.Refusals.{too_long}
-use Rattle.anyon_app.specs.Categories.{named_of}
+use Rattle.anyon_app.specs.Categories.{named_as}
 use Rattle.anyon_app.proofs.StageLemmas.{read_passes}
 use Rattle.anyon_app.proofs.categories.load_category.Goals as goal
 
@@ -11,4 +10,4 @@ returns-in_err-text-clause-passes g c =
     rw (p.1, p.2) record { stopped = λ next. c.in_err-text.ensures.passes.stopped _; passed = tt }
 
 pub returns-clause-passes : goal.returns-clause-passes
-returns-clause-passes g c = read_passes _ _ _ _ (too_long Category) c.args.name.now _ named_of _ _ c.in_ok-text.ensures.passes (rw c.deref.ensures.value at c.category.ensures.gives)
+returns-clause-passes g c = read_passes _ _ _ _ (too_long c.args.kind) c.args.name.now _ (named_as c.args.kind) _ _ c.in_ok-text.ensures.passes (rw c.deref.ensures.value at c.category.ensures.gives)
