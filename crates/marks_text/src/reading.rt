@@ -52,11 +52,7 @@ fn read_text(names: &Names, draft: &mut Draft<Cyclo>, bytes: &[u8]) -> Result<()
 }
 
 /// Reads the lines behind the first.
-fn read_lines(
-    names: &Names,
-    lines: &mut Lines,
-    draft: &mut Draft<Cyclo>,
-) -> Result<(), MarksFault>
+fn read_lines(names: &Names, lines: &mut Lines, draft: &mut Draft<Cyclo>) -> Result<(), MarksFault>
     requires version { draft.old.version ≡ 2 }
     requires counts { length names.now ≡ draft.old.rules.count }
     ensures said { Told (λ _. named_draft names.now draft.new) result (marks_on (named_draft names.now draft.old) lines.old.ahead) }
