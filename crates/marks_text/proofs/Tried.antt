@@ -1,5 +1,5 @@
 -- The definition, tried on small texts.
-use Rattle.std.proofs.Common.{◌≡◌, ℕ, List, [], ◌∷◌, ◌++◌, ◌==◌, refl, codes, if◌then◌else◌, Some, None, pos, negsuc, ℤ, Result, Ok, Err, replicate}
+use Rattle.std.proofs.Common.{◌≡◌, ℕ, [], ◌∷◌, ◌++◌, ◌==◌, refl, codes, if◌then◌else◌, Some, None, pos, negsuc, ℤ, Result, Ok, Err, replicate}
 use Rattle.poly_core.specs.Gcd.{totient, gcd}
 use Rattle.cyclo_core.specs.Content.{content}
 use Rattle.cyclo_core.specs.Ratio.{Ratio, reduced}

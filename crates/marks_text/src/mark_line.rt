@@ -1,7 +1,7 @@
 //! A line behind the first.
 
 ghost use Rattle.std.specs.Prelude.{◌≡◌, ◌<◌, length, is_some, IfOk, IsTrue, None, OnOk};
-ghost use Rattle.line_text.specs.Text.{words_of, word_in};
+ghost use Rattle.line_text.specs.Text.{words_of};
 ghost use Rattle.cyclo_core.specs.Ratio.{ring_at};
 ghost use Rattle.cyclo_text.specs.NumberWords.{number_of};
 ghost use Rattle.symbol_table.specs.Draft.{Marks, given, mark_fault};
