@@ -1,5 +1,15 @@
 -- The canonical text of a new category is that of its symbols.
-use Rattle.std.proofs.Common.{◌≡◌, ℕ, zero, suc, ◌+◌, ◌*◌, ◌<◌, ◌≤◌, List, length, true, false, Option, Some, None, Result, Ok, Err, refl, sym, ap, ◌∙◌, arith}
+use Rattle.std.proofs.Common.{◌≡◌, ℕ, zero, suc, ◌+◌, ◌*◌, ◌<◌, ◌≤◌, ◌&&◌, List, length, true, false, nat_eq, nat_lt, Option, Some, None, Result, Ok, Err, refl, sym, ap, subst, ◌∙◌, arith, codes, if◌then◌else◌}
+use Rattle.std.specs.Prelude.{nat_le}
+use Rattle.std.proofs.lemmas.Bool.Decides.{nat_tests}
+use Rattle.poly_core.specs.Gcd.{gcd}
+use Rattle.ring_laws.proofs.SumLemmas.{and_right}
+use Rattle.cyclo_core.specs.Image.{is_exponent}
+use Rattle.program_text.specs.Steps.{◌>>=◌}
+use Rattle.anyon_app.specs.declared.stop.Stop.{Stop}
+use Rattle.anyon_app.specs.declared.stop.Stop.TheVariants.{RefusalLine, LimitLine, Unread, Memory}
+use Rattle.anyon_app.specs.Stages.{Gives, GivesUp}
+use Rattle.anyon_app.specs.Refusals.{exponent_line}
 use Rattle.cyclo_core.specs.Ratio.{Ratio, held, ring_at}
 use Rattle.symbol_table.specs.Symbols.{Symbols, symbols_of}
 use Rattle.symbol_table.specs.Draft.{DraftValue, given}
@@ -18,7 +28,7 @@ use Rattle.category_images.specs.Answers.{IsMade, symbols_of_root}
 use Rattle.category_images.specs.Names.{pair_names}
 use Rattle.category_images.specs.declared.place.Place.{Place}
 use Rattle.anyon_app.specs.Replies.{Reply}
-use Rattle.anyon_app.specs.NewCategories.{named_symbols, text_or}
+use Rattle.anyon_app.specs.NewCategories.{image_made, image_missing, image_text, named_symbols, text_or}
 
 module _ (names : List (List ℕ)) (draft : DraftValue ℕ Ratio) where
   abbrev c : Symbols Ratio
@@ -67,3 +77,31 @@ pair_names_count (suc n) = omega (arith, pair_names_count n)
 -- labels of two categories have a pair
 pub some_pair : (m n : ℕ) → 0 < m → 0 < n → 0 < m * n
 some_pair (suc m) (suc n) one two = omega arith
+
+-- what a stage gives, said of an equal
+pub gives_as : {V T : Type 0} (view : V → T) (result : Result V Stop) (stated other : Result T Reply) → other ≡ stated → Gives view result stated → Gives view result other
+gives_as view result stated other same gives = subst (Gives view result) (sym same) gives
+
+-- what is given up stays so, whatever follows
+pub up_then : {A B : Type 0} (stop : Stop) (stated : Result A Reply) (f : A → Result B Reply) → GivesUp stop stated → GivesUp stop (stated >>= f)
+up_then (RefusalLine line) stated f up = ap (λ s. s >>= f) up
+up_then (LimitLine line) stated f up = ap (λ s. s >>= f) up
+up_then Unread stated f up = absurd up
+up_then Memory stated f up = tt
+
+-- a number above the root is no exponent
+pub above_root : (N k : ℕ) → N < k → is_exponent N k ≡ false
+unfolding is_exponent
+above_root N k above =
+    let past : nat_le k N ≡ false = grind (arith, nat_tests) in
+    ap (λ b. nat_lt 0 k && (b && nat_eq (gcd k N) 1)) past ∙ and_right (nat_lt 0 k) false refl
+
+-- of a number that is no exponent nothing is made
+pub no_image : (named : NamedSymbols) (k : ℕ) → is_exponent named.root k ≡ false → image_text named k ≡ Err exponent_line
+unfolding image_text
+no_image named k none = ap (λ b. if b then text_or (codes "galois") (image_made named k) (image_missing named k) else Err exponent_line) none
+
+-- the text by an exponent
+pub some_image : (named : NamedSymbols) (k : ℕ) → is_exponent named.root k ≡ true → image_text named k ≡ text_or (codes "galois") (image_made named k) (image_missing named k)
+unfolding image_text
+some_image named k is = ap (λ b. if b then text_or (codes "galois") (image_made named k) (image_missing named k) else Err exponent_line) is

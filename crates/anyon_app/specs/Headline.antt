@@ -21,25 +21,37 @@ use Rattle.anyon_app.specs.Run.{run_work, run_by_work}
 use Rattle.anyon_app.specs.Trees.{trees_work, trees_by_work}
 use Rattle.anyon_app.specs.Upgrade.{upgrade_work}
 
--- what words of a listed form ask for: `check CAT`, `format CAT`, `mirror CAT`, `make N`, `upgrade CAT MARKS`, `galois CAT K`,
--- `product CAT CAT`, `comb CAT PROG`, `run CAT PROG`, `trees CAT PROG`, `run CAT PROG SCHED`, `trees CAT PROG SCHED` or
--- `linked CAT PROG PROG MOVES`
-unfoldable pub command_in : List (List ℕ) → Option Work
-command_in (command ∷ first ∷ []) =
+-- what a command with one further word asks for
+unfoldable pub one_word : (command first : List ℕ) → Option Work
+one_word command first =
     if bytes_eq command (codes "check") then Some (check_work first) else
     (if bytes_eq command (codes "format") then Some (format_work first) else
     (if bytes_eq command (codes "mirror") then Some (mirror_work first) else
     (if bytes_eq command (codes "make") then Some (make_work first) else None)))
-command_in (command ∷ first ∷ second ∷ []) =
+
+-- the same with two
+unfoldable pub two_words : (command first second : List ℕ) → Option Work
+two_words command first second =
     if bytes_eq command (codes "upgrade") then Some (upgrade_work first second) else
     (if bytes_eq command (codes "galois") then Some (galois_work first second) else
     (if bytes_eq command (codes "product") then Some (product_work first second) else
     (if bytes_eq command (codes "comb") then Some (comb_work first second) else
     (if bytes_eq command (codes "run") then Some (run_work first second) else
     (if bytes_eq command (codes "trees") then Some (trees_work first second) else None)))))
-command_in (command ∷ first ∷ second ∷ third ∷ []) =
+
+-- the same with three
+unfoldable pub three_words : (command first second third : List ℕ) → Option Work
+three_words command first second third =
     if bytes_eq command (codes "run") then Some (run_by_work first second third) else
     (if bytes_eq command (codes "trees") then Some (trees_by_work first second third) else None)
+
+-- what words of a listed form ask for: `check CAT`, `format CAT`, `mirror CAT`, `make N`, `upgrade CAT MARKS`, `galois CAT K`,
+-- `product CAT CAT`, `comb CAT PROG`, `run CAT PROG`, `trees CAT PROG`, `run CAT PROG SCHED`, `trees CAT PROG SCHED` or
+-- `linked CAT PROG PROG MOVES`
+unfoldable pub command_in : List (List ℕ) → Option Work
+command_in (command ∷ first ∷ []) = one_word command first
+command_in (command ∷ first ∷ second ∷ []) = two_words command first second
+command_in (command ∷ first ∷ second ∷ third ∷ []) = three_words command first second third
 command_in (command ∷ category ∷ first ∷ second ∷ moves ∷ []) = if bytes_eq command (codes "linked") then Some (linked_work category first second moves) else None
 command_in words = None
 

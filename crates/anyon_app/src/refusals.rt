@@ -120,7 +120,6 @@ pub fn place_line(alloc: Global, command: &str, names: &Names, place: &Place) ->
 }
 
 // The line of a symbol that doesn't fit.
-#[tactic(auto, using(crate::proofs::LineLemmas::place_line_is))]
 fn place_text(
     alloc: Global,
     command: &str,

@@ -4,7 +4,7 @@ ghost use Rattle.io_ports.specs.Ports.{Files, Rose};
 ghost use Rattle.anyon_app.specs.Replies.{Reply};
 ghost use Rattle.anyon_app.specs.Work.{reply_of, Decides};
 ghost use Rattle.anyon_app.specs.Stages.{Worked};
-ghost use Rattle.anyon_app.specs.Headline.{command_in, command_work, work_of, IsAnswer, HasReply, IsGiven, IsBegun, HasFailed, NoFaults, IsPut};
+ghost use Rattle.anyon_app.specs.Headline.{command_in, command_work, one_word, three_words, two_words, work_of, IsAnswer, HasReply, IsGiven, IsBegun, HasFailed, NoFaults, IsPut};
 
 use crate::check::check;
 use crate::comb::comb;
@@ -103,52 +103,74 @@ enum Command<'a> {
     Linked(&'a str, &'a str, &'a str, &'a str),
 }
 
-#[tactic(auto, unfolding(crate::specs::Headline::command_in, crate::specs::Headline::command_work))]
+#[tactic(auto, unfolding(crate::specs::Headline::command_in))]
 fn command_of(words: &[String]) -> Option<Command<'_>>
     ensures { MatchOption result (command_in (map string_bytes words.now) ≡ None)
         (λ command. command_in (map string_bytes words.now) ≡ Some (command_work command)) }
 {
     match words {
-        [command, category] if command.as_str() == "check" => {
-            Some(Command::Check(category.as_str()))
+        [command, first] => one_word(command.as_str(), first.as_str()),
+        [command, first, second] => {
+            two_words(command.as_str(), first.as_str(), second.as_str())
         }
-        [command, category] if command.as_str() == "format" => {
-            Some(Command::Format(category.as_str()))
-        }
-        [command, category] if command.as_str() == "mirror" => {
-            Some(Command::Mirror(category.as_str()))
-        }
-        [command, number] if command.as_str() == "make" => Some(Command::Make(number.as_str())),
-        [command, category, marks] if command.as_str() == "upgrade" => {
-            Some(Command::Upgrade(category.as_str(), marks.as_str()))
-        }
-        [command, category, number] if command.as_str() == "galois" => {
-            Some(Command::Galois(category.as_str(), number.as_str()))
-        }
-        [command, first, second] if command.as_str() == "product" => {
-            Some(Command::Product(first.as_str(), second.as_str()))
-        }
-        [command, category, program] if command.as_str() == "comb" => {
-            Some(Command::Comb(category.as_str(), program.as_str()))
-        }
-        [command, category, program] if command.as_str() == "run" => {
-            Some(Command::Run(category.as_str(), program.as_str()))
-        }
-        [command, category, program] if command.as_str() == "trees" => {
-            Some(Command::Trees(category.as_str(), program.as_str()))
-        }
-        [command, category, program, schedule] if command.as_str() == "run" => {
+        [command, category, program, schedule] => {
             let (category, program) = (category.as_str(), program.as_str());
-            Some(Command::RunBy(category, program, schedule.as_str()))
-        }
-        [command, category, program, schedule] if command.as_str() == "trees" => {
-            let (category, program) = (category.as_str(), program.as_str());
-            Some(Command::TreesBy(category, program, schedule.as_str()))
+            three_words(command.as_str(), category, program, schedule.as_str())
         }
         [command, category, first, second, moves] if command.as_str() == "linked" => {
             let (category, first) = (category.as_str(), first.as_str());
             Some(Command::Linked(category, first, second.as_str(), moves.as_str()))
         }
+        _ => None,
+    }
+}
+
+// What a command with one further word asks for.
+#[tactic(auto, unfolding(crate::specs::Headline::one_word, crate::specs::Headline::command_work))]
+fn one_word<'a>(command: &str, first: &'a str) -> Option<Command<'a>>
+    ensures { MatchOption result (one_word command.now first.now ≡ None)
+        (λ command_is. one_word command.now first.now ≡ Some (command_work command_is)) }
+{
+    match command {
+        "check" => Some(Command::Check(first)),
+        "format" => Some(Command::Format(first)),
+        "mirror" => Some(Command::Mirror(first)),
+        "make" => Some(Command::Make(first)),
+        _ => None,
+    }
+}
+
+// The same with two further words.
+#[tactic(auto, unfolding(crate::specs::Headline::two_words, crate::specs::Headline::command_work))]
+fn two_words<'a>(command: &str, first: &'a str, second: &'a str) -> Option<Command<'a>>
+    ensures { MatchOption result (two_words command.now first.now second.now ≡ None)
+        (λ command_is. two_words command.now first.now second.now ≡ Some (command_work command_is)) }
+{
+    match command {
+        "upgrade" => Some(Command::Upgrade(first, second)),
+        "galois" => Some(Command::Galois(first, second)),
+        "product" => Some(Command::Product(first, second)),
+        "comb" => Some(Command::Comb(first, second)),
+        "run" => Some(Command::Run(first, second)),
+        "trees" => Some(Command::Trees(first, second)),
+        _ => None,
+    }
+}
+
+// The same with three further words.
+#[tactic(auto, unfolding(crate::specs::Headline::three_words, crate::specs::Headline::command_work))]
+fn three_words<'a>(
+    command: &str,
+    category: &'a str,
+    program: &'a str,
+    schedule: &'a str,
+) -> Option<Command<'a>>
+    ensures { MatchOption result (three_words command.now category.now program.now schedule.now ≡ None)
+        (λ command_is. three_words command.now category.now program.now schedule.now ≡ Some (command_work command_is)) }
+{
+    match command {
+        "run" => Some(Command::RunBy(category, program, schedule)),
+        "trees" => Some(Command::TreesBy(category, program, schedule)),
         _ => None,
     }
 }

@@ -45,6 +45,7 @@ fn load_first<S: Shelf>(alloc: Global, shelf: &mut S, name: &str) -> Result<Name
 fn of_first_version(alloc: Global, named: Named) -> Result<Named, Stop>
     ensures gives { Gives (λ _. tt) result (unless (version_verdict (seen named))) }
     ensures kept { IfOk result (λ again. again ≡ named) }
+    ensures same { IfOk result (λ again. seen again ≡ seen named) }
     ensures first { IfOk result (λ again. again.draft.version ≡ 1) }
 {
     if named.draft.version() == 2 {

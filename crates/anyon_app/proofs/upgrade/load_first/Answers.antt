@@ -13,4 +13,4 @@ returns-in_err-named-clause-passes g c =
 pub returns-clause-passes : goal.returns-clause-passes
 returns-clause-passes g c =
     judge_passes _ _ _ _ seen _ c.in_ok-named.named (λ named. unless (version_verdict named)) seen _
-    c.in_ok-named.ensures.passes c.of_first_version.ensures.gives c.of_first_version.ensures.kept
+    c.in_ok-named.ensures.passes c.of_first_version.ensures.gives c.of_first_version.ensures.same
