@@ -1,1 +1,7 @@
-
+pub mod MadeLemmas
+pub mod MarkLemmas
+pub mod NamesLemmas
+pub mod PairLemmas
+pub mod PutLemmas
+pub mod RuleLemmas
+pub mod WalkLemmas

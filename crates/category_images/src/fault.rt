@@ -1,3 +1,6 @@
+ghost use Rattle.std.specs.Prelude.{◌≡◌};
+
+use crate::making::Stop;
 use crate::place::Place;
 
 /// Why a category has no image or no mirror.
@@ -24,4 +27,30 @@ pub enum ProductFault {
     Overflow(Place),
     /// There was no memory for one value more.
     Memory,
+}
+
+impl From<Stop> for ImageFault {
+    ghost use Rattle.category_images.specs.Faults.{image_fault};
+
+    ghost from_gives = { λ stop fault. fault ≡ image_fault stop };
+
+    fn from(stop: Stop) -> ImageFault {
+        match stop {
+            Stop::Overflow(place) => ImageFault::Overflow(place),
+            Stop::Memory => ImageFault::Memory,
+        }
+    }
+}
+
+impl From<Stop> for ProductFault {
+    ghost use Rattle.category_images.specs.Faults.{product_fault};
+
+    ghost from_gives = { λ stop fault. fault ≡ product_fault stop };
+
+    fn from(stop: Stop) -> ProductFault {
+        match stop {
+            Stop::Overflow(place) => ProductFault::Overflow(place),
+            Stop::Memory => ProductFault::Memory,
+        }
+    }
 }

@@ -1,6 +1,9 @@
 ghost use Rattle.category_images.specs.Answers.{AnswersImage, AnswersMirror};
 
 use crate::fault::ImageFault;
+use crate::image::Image;
+use crate::make::make;
+use crate::mirrored::Mirrored;
 use cyclo_core::Cyclo;
 use std::alloc::Global;
 use symbol_table::Category;
@@ -13,7 +16,10 @@ use symbol_table::Category;
 pub fn galois(alloc: Global, from: &Category<Cyclo>, k: u8) -> Result<Category<Cyclo>, ImageFault>
     ensures { AnswersImage from.now k result }
 {
-    Err(ImageFault::Memory)
+    if !from.ring().is_exponent(k) {
+        return Err(ImageFault::Exponent);
+    }
+    Ok(make(alloc, &Image { from, k })?)
 }
 
 /// The mirror of a category: S for R and R for S; F, w, v, H and the loop values stay; in version 2 the twist of a is
@@ -24,5 +30,5 @@ pub fn galois(alloc: Global, from: &Category<Cyclo>, k: u8) -> Result<Category<C
 pub fn mirror(alloc: Global, from: &Category<Cyclo>) -> Result<Category<Cyclo>, ImageFault>
     ensures { AnswersMirror from.now result }
 {
-    Err(ImageFault::Memory)
+    Ok(make(alloc, &Mirrored { from })?)
 }

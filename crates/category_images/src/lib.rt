@@ -15,10 +15,19 @@
 #![tactic(auto)]
 
 mod fault;
+mod image;
 mod images;
+mod make;
+mod making;
+mod mirrored;
 mod names;
+mod pairs;
+mod pattern;
 mod place;
 mod products;
+mod rules;
+mod value;
+mod walk;
 
 pub use fault::{ImageFault, ProductFault};
 pub use images::{galois, mirror};

@@ -1,7 +1,10 @@
 ghost use Rattle.category_images.specs.Answers.{AnswersProduct};
 
 use crate::fault::ProductFault;
+use crate::make::make;
+use crate::pairs::Pairs;
 use cyclo_core::Cyclo;
+use fusion_rules::LABEL_LIMIT;
 use std::alloc::Global;
 use symbol_table::Category;
 
@@ -18,5 +21,15 @@ pub fn product(
 ) -> Result<Category<Cyclo>, ProductFault>
     ensures { AnswersProduct one.now two.now result }
 {
-    Err(ProductFault::Memory)
+    if one.draft().version() == 1 || two.draft().version() == 1 {
+        return Err(ProductFault::Version);
+    }
+    if one.ring().root() != two.ring().root() {
+        return Err(ProductFault::Roots);
+    }
+    let count = u32::from(one.rules().count()) * u32::from(two.rules().count());
+    if count > LABEL_LIMIT as u32 {
+        return Err(ProductFault::Labels { count });
+    }
+    Ok(make(alloc, &Pairs { one, two })?)
 }
