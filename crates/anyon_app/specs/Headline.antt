@@ -45,6 +45,10 @@ three_words command first second third =
     if bytes_eq command (codes "run") then Some (run_by_work first second third) else
     (if bytes_eq command (codes "trees") then Some (trees_by_work first second third) else None)
 
+-- the same with four
+unfoldable pub four_words : (command category first second moves : List ℕ) → Option Work
+four_words command category first second moves = if bytes_eq command (codes "linked") then Some (linked_work category first second moves) else None
+
 -- what words of a listed form ask for: `check CAT`, `format CAT`, `mirror CAT`, `make N`, `upgrade CAT MARKS`, `galois CAT K`,
 -- `product CAT CAT`, `comb CAT PROG`, `run CAT PROG`, `trees CAT PROG`, `run CAT PROG SCHED`, `trees CAT PROG SCHED` or
 -- `linked CAT PROG PROG MOVES`
@@ -52,7 +56,7 @@ unfoldable pub command_in : List (List ℕ) → Option Work
 command_in (command ∷ first ∷ []) = one_word command first
 command_in (command ∷ first ∷ second ∷ []) = two_words command first second
 command_in (command ∷ first ∷ second ∷ third ∷ []) = three_words command first second third
-command_in (command ∷ category ∷ first ∷ second ∷ moves ∷ []) = if bytes_eq command (codes "linked") then Some (linked_work category first second moves) else None
+command_in (command ∷ category ∷ first ∷ second ∷ moves ∷ []) = four_words command category first second moves
 command_in words = None
 
 -- what a command asks for

@@ -78,7 +78,15 @@ fn image_text(alloc: Global, admitted: &Admitted, k: u32) -> Result<Vec<u8>, Sto
     if k > u32::from(admitted.category.ring().root()) {
         return Err(exponent_line(alloc));
     }
-    match category_images::galois(alloc, &admitted.category, k as u8) {
+    exponent_text(alloc, admitted, k as u8)
+}
+
+// The same of a k that is at most the root.
+fn exponent_text(alloc: Global, admitted: &Admitted, k: u8) -> Result<Vec<u8>, Stop>
+    requires { length admitted.now.names ≡ admitted.now.category.rules.count }
+    ensures { Gives (λ text. text.items) result (image_text (named_draft admitted.now.names admitted.now.category) k) }
+{
+    match category_images::galois(alloc, &admitted.category, k) {
         Ok(image) => made_text(alloc, &admitted.names, &image),
         Err(ImageFault::Exponent) => Err(exponent_line(alloc)),
         Err(ImageFault::Overflow(place)) => {

@@ -4,7 +4,7 @@ ghost use Rattle.io_ports.specs.Ports.{Files, Rose};
 ghost use Rattle.anyon_app.specs.Replies.{Reply};
 ghost use Rattle.anyon_app.specs.Work.{reply_of, Decides};
 ghost use Rattle.anyon_app.specs.Stages.{Worked};
-ghost use Rattle.anyon_app.specs.Headline.{command_in, command_work, one_word, three_words, two_words, work_of, IsAnswer, HasReply, IsGiven, IsBegun, HasFailed, NoFaults, IsPut};
+ghost use Rattle.anyon_app.specs.Headline.{command_in, command_work, four_words, one_word, three_words, two_words, work_of, IsAnswer, HasReply, IsGiven, IsBegun, HasFailed, NoFaults, IsPut};
 
 use crate::check::check;
 use crate::comb::comb;
@@ -117,9 +117,9 @@ fn command_of(words: &[String]) -> Option<Command<'_>>
             let (category, program) = (category.as_str(), program.as_str());
             three_words(command.as_str(), category, program, schedule.as_str())
         }
-        [command, category, first, second, moves] if command.as_str() == "linked" => {
+        [command, category, first, second, moves] => {
             let (category, first) = (category.as_str(), first.as_str());
-            Some(Command::Linked(category, first, second.as_str(), moves.as_str()))
+            four_words(command.as_str(), category, first, second.as_str(), moves.as_str())
         }
         _ => None,
     }
@@ -171,6 +171,24 @@ fn three_words<'a>(
     match command {
         "run" => Some(Command::RunBy(category, program, schedule)),
         "trees" => Some(Command::TreesBy(category, program, schedule)),
+        _ => None,
+    }
+}
+
+// The same with four further words.
+#[tactic(auto, unfolding(crate::specs::Headline::four_words, crate::specs::Headline::command_work))]
+fn four_words<'a>(
+    command: &str,
+    category: &'a str,
+    first: &'a str,
+    second: &'a str,
+    moves: &'a str,
+) -> Option<Command<'a>>
+    ensures { MatchOption result (four_words command.now category.now first.now second.now moves.now ≡ None)
+        (λ command_is. four_words command.now category.now first.now second.now moves.now ≡ Some (command_work command_is)) }
+{
+    match command {
+        "linked" => Some(Command::Linked(category, first, second, moves)),
         _ => None,
     }
 }

@@ -1,6 +1,7 @@
 pub mod LabelLemmas
 pub mod RootLemmas
 pub mod SymbolLemmas
+pub mod SymbolTexts
 pub mod Tried
 pub mod BodyLemmas
 pub mod WholeLemmas

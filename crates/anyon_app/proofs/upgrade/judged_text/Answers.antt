@@ -1,4 +1,4 @@
-use Rattle.std.proofs.Common.{Ok, ap, sym, ◌∙◌}
+use Rattle.std.proofs.Common.{Ok, ap, ◌∙◌}
 use Rattle.std.proofs.lemmas.Result.{err_from_is_err_and}
 use Rattle.category_text.specs.Canonical.{canonical}
 use Rattle.category_text.specs.Named.{seen}
@@ -13,4 +13,4 @@ returns-in_err-judge c =
     rw (p.1, p.2) (up_then _ (unless (category_verdict (seen c.args.named))) (λ _. Ok (canonical (seen c.args.named))) c.in_err-judge.ensures.gives)
 
 pub returns : goal.returns
-returns c = ap (λ s. s >>= (λ _. Ok (canonical (seen c.args.named)))) c.in_ok-judge.ensures.gives ∙ sym c.in_ok-text.ensures
+returns c = ap (λ s. s >>= (λ _. Ok (canonical (seen c.args.named)))) c.in_ok-judge.ensures.gives ∙ c.in_ok-text.ensures
