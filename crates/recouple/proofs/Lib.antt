@@ -10,5 +10,4 @@ pub mod SomeLemmas
 pub mod SourceLemmas
 pub mod StartLemmas
 pub mod StateLemmas
-pub mod TermLemmas
 pub mod ValueLemmas

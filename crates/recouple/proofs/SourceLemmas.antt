@@ -1,5 +1,5 @@
 -- The new keys of a raise as those of its sources.
-use Rattle.std.proofs.Common.{◌≡◌, ℕ, zero, suc, ◌+◌, ◌-◌, ◌<◌, Bool, true, false, not, ◌||◌, List, [], ◌∷◌, ◌++◌, append_assoc, append-nil, length, get_or, set, take, Some, None, refl, ap, sym, ◌∙◌, subst, arith}
+use Rattle.std.proofs.Common.{◌≡◌, ℕ, zero, suc, ◌+◌, ◌-◌, ◌<◌, Bool, true, false, ◌||◌, List, [], ◌∷◌, ◌++◌, append_assoc, append-nil, length, get_or, set, take, Some, None, refl, ap, sym, ◌∙◌, subst, arith}
 use Rattle.std.specs.Prelude.{All, slice_get, if◌then◌else◌}
 use Rattle.std.specs.Str.{bytes_eq}
 use Rattle.std.specs.List.Sorted.{IsPermutation}
@@ -109,10 +109,6 @@ among_again x a done h =
 -- the last key is done
 pub among_last : (x a : List ℕ) (done : List (List ℕ)) → a ≡ x → among x (done ++ a ∷ []) ≡ true
 among_last x a done e = among_more x a done ∙ or_true (among x done) (bytes_eq a x) ((bytes_eq-Decides a x).1 e)
-
-pub not_unlike : (b d : Bool) → d ≡ not b → d ≡ false → b ≡ true
-not_unlike true d e h = refl
-not_unlike false d e h = absurd (cc)
 
 -- what is gathered at the same keys is the same
 pub gathered_same : {E : Type 0} (h : Held E) (v : List ℕ → E) (first second : List (List ℕ)) (x : List ℕ) → among x first ≡ among x second → gathered h v first x ≡ gathered h v second x

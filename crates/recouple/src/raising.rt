@@ -1,6 +1,6 @@
 //! The amplitudes after a node was raised over its parent.
 
-ghost use Rattle.std.specs.Prelude.{◌≡◌, ◌<◌, ℕ, List, true, Some, None, IsTrue, IfOk, OnOk, IsErrOf, All, length, is_some, if◌then◌else◌};
+ghost use Rattle.std.specs.Prelude.{◌≡◌, ◌<◌, ℕ, List, true, false, Some, None, IsTrue, IfOk, OnOk, IsErrOf, All, length, is_some, if◌then◌else◌};
 ghost use Rattle.std.specs.Str.{bytes_eq};
 ghost use Rattle.symbol_table.specs.Category.{symbols};
 ghost use Rattle.amp_store.specs.Amplitudes.{amplitude_at, amplitude_of, AreAmplitudes};
@@ -36,6 +36,15 @@ fn put_unless_zero<R: StarRing>(
     amps.put(copy_of(key), value)
 }
 
+/// Whether the key of the source at a place may be another than the last one, which is that of the source before it. Keys
+/// are compared only where the sources have one order.
+fn may_differ(sources: &[Source], i: usize, key: &Key, last: &Key) -> bool
+    requires { i < length sources.now }
+    ensures { result ≡ false → key.now.items ≡ last.now.items }
+{
+    i == 0 || sources[i].order != sources[i - 1].order || key != last
+}
+
 /// The amplitudes of the new keys of these sources, evaluated in their order. Sources of one key stand together.
 fn raise_keys<R: StarRing>(
     category: &Category<R>,
@@ -62,8 +71,17 @@ fn raise_keys<R: StarRing>(
     let mut last = Key::new();
     for i in 0..sources.len() {
         let key = new_key(amps, rotation, &sources[i]);
-        if key != last {
-            let value = raised_at(category, strands, rotation, amps, &key, &sources[i..])?;
+        if may_differ(sources, i, &key, &last) {
+            let mut value = category.ring().zero();
+            raised_at(
+                category,
+                strands,
+                rotation,
+                amps,
+                &key,
+                &sources[i..],
+                &mut value,
+            )?;
             put_unless_zero(category.ring(), &mut new, &key, value)?;
             last = key;
         }

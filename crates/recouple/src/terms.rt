@@ -1,22 +1,41 @@
 //! The terms of a new amplitude.
 
-ghost use Rattle.std.specs.Prelude.{◌<◌, IsTrue, IfOk, All, length};
-ghost use Rattle.ring_laws.specs.Stated.{Gives};
+ghost use Rattle.std.specs.Prelude.{◌≡◌, ◌<◌, None, Some, IsTrue, OnErr, OnOk, All, length};
+ghost use Rattle.ring_laws.specs.Stated.{add_product_at};
 ghost use Rattle.symbol_table.specs.Category.{symbols};
 ghost use Rattle.amp_store.specs.Amplitudes.{amplitude_of};
-ghost use Rattle.recouple.specs.Rotations.{IsKey, IsRotation};
+ghost use Rattle.recouple.specs.Rotations.{IsKey, IsRotation, before as spec_before};
 ghost use Rattle.recouple.specs.Raises.{AreOver, raise_step, raised_at as spec_raised_at};
 
 use crate::factors::{factor_at, index_of};
-use crate::keys::before;
+use crate::keys::{before, set_label};
 use crate::rotation::Rotation;
 use crate::sources::{Source, place_near};
 use amp_store::{Amps, Key};
-use ring_laws::{Overflow, StarRing, add_product};
+use ring_laws::{Overflow, StarRing};
 use symbol_table::Category;
 
-/// The term of the label t in the amplitude of a new key, added to a sum where the old amplitude isn't zero and the
-/// factor is admissible. The old amplitude is looked for at a place first.
+/// Adds the product of two to a sum, in place.
+fn add_product_to<R: StarRing>(
+    ring: &R,
+    sum: &mut R::Elem,
+    x: &R::Elem,
+    y: &R::Elem,
+) -> Result<(), Overflow>
+    requires sum { IsTrue ((R.ring ring.now).member sum.old) }
+    requires left { IsTrue ((R.ring ring.now).member x.now) }
+    requires right { IsTrue ((R.ring ring.now).member y.now) }
+    ensures ok { OnOk result (add_product_at (R.ring ring.now) sum.old x.now y.now ≡ Some sum.new) }
+    ensures err { OnErr result (add_product_at (R.ring ring.now) sum.old x.now y.now ≡ None) }
+    ensures member { OnOk result (IsTrue ((R.ring ring.now).member sum.new)) }
+{
+    let product = ring.mul(x, y)?;
+    *sum = ring.add(sum, &product)?;
+    Ok(())
+}
+
+/// Adds the term of the label t in the amplitude of a new key to a sum, where the old amplitude isn't zero and the
+/// factor is admissible. The old amplitude, whose key is given too, is looked for at a place first.
 fn raise_term<R: StarRing>(
     category: &Category<R>,
     strands: &[u8],
@@ -24,31 +43,35 @@ fn raise_term<R: StarRing>(
     amps: &Amps<R>,
     key: &Key,
     t: u8,
+    old_key: &Key,
     place: usize,
-    sum: R::Elem,
-) -> Result<R::Elem, Overflow>
+    sum: &mut R::Elem,
+) -> Result<(), Overflow>
     requires rotation { IsRotation (length strands.now) rotation.now }
     requires strands { All (λ s. s < category.now.rules.count) strands.now }
     requires amps { AreOver (R.ring category.now.ring) category.now.rules.count (length strands.now) amps.now }
     requires key { IsKey category.now.rules.count (length strands.now) key.now.items }
     requires label { t < category.now.rules.count }
-    requires sum { IsTrue ((R.ring category.now.ring).member sum) }
-    ensures value { let c = symbols R.StarRing category.now in
-        Gives result (raise_step c strands.now rotation.now (amplitude_of c.ring amps.now) key.now.items t sum) }
-    ensures member { IfOk result (λ z. IsTrue ((R.ring category.now.ring).member z)) }
+    requires old_key { old_key.now.items ≡ spec_before rotation.now key.now.items t }
+    requires sum { IsTrue ((R.ring category.now.ring).member sum.old) }
+    ensures ok { let c = symbols R.StarRing category.now in
+        OnOk result (raise_step c strands.now rotation.now (amplitude_of c.ring amps.now) key.now.items t sum.old ≡ Some sum.new) }
+    ensures err { let c = symbols R.StarRing category.now in
+        OnErr result (raise_step c strands.now rotation.now (amplitude_of c.ring amps.now) key.now.items t sum.old ≡ None) }
+    ensures member { OnOk result (IsTrue ((R.ring category.now.ring).member sum.new)) }
 {
     let at = index_of(strands, rotation, key, t);
     if !at.is_admissible(category.rules()) {
-        return Ok(sum);
+        return Ok(());
     }
-    let Some(old) = amps.get_near(&before(key, rotation, t), place) else {
-        return Ok(sum);
+    let Some(old) = amps.get_near(old_key, place) else {
+        return Ok(());
     };
     let factor = factor_at(category, rotation, &at);
-    add_product(category.ring(), &sum, &factor, old)
+    add_product_to(category.ring(), sum, &factor, old)
 }
 
-/// The amplitude of a new key, whose sources stand first.
+/// Makes a zero the amplitude of a new key, whose sources stand first.
 #[tactic(auto, using(ring_laws::proofs::StatedLemmas::steps_one, ring_laws::proofs::StatedLemmas::steps_none))]
 pub(crate) fn raised_at<R: StarRing>(
     category: &Category<R>,
@@ -57,19 +80,27 @@ pub(crate) fn raised_at<R: StarRing>(
     amps: &Amps<R>,
     key: &Key,
     sources: &[Source],
-) -> Result<R::Elem, Overflow>
+    sum: &mut R::Elem,
+) -> Result<(), Overflow>
     requires rotation { IsRotation (length strands.now) rotation.now }
     requires strands { All (λ s. s < category.now.rules.count) strands.now }
     requires amps { AreOver (R.ring category.now.ring) category.now.rules.count (length strands.now) amps.now }
     requires key { IsKey category.now.rules.count (length strands.now) key.now.items }
-    ensures value { let c = symbols R.StarRing category.now in
-        Gives result (spec_raised_at c strands.now rotation.now (amplitude_of c.ring amps.now) key.now.items) }
-    ensures member { IfOk result (λ z. IsTrue ((R.ring category.now.ring).member z)) }
+    requires zero { sum.old ≡ (R.ring category.now.ring).zero }
+    requires sum { IsTrue ((R.ring category.now.ring).member sum.old) }
+    ensures ok { let c = symbols R.StarRing category.now in
+        OnOk result (spec_raised_at c strands.now rotation.now (amplitude_of c.ring amps.now) key.now.items ≡ Some sum.new) }
+    ensures err { let c = symbols R.StarRing category.now in
+        OnErr result (spec_raised_at c strands.now rotation.now (amplitude_of c.ring amps.now) key.now.items ≡ None) }
+    ensures member { OnOk result (IsTrue ((R.ring category.now.ring).member sum.new)) }
 {
-    let mut sum = category.ring().zero();
+    let mut old_key = before(key, rotation, 0);
     for t in 0..category.rules().count() {
         let place = place_near(sources, t);
-        sum = raise_term(category, strands, rotation, amps, key, t, place, sum)?;
+        set_label(&mut old_key, rotation.node, t);
+        raise_term(
+            category, strands, rotation, amps, key, t, &old_key, place, sum,
+        )?;
     }
-    Ok(sum)
+    Ok(())
 }

@@ -1,6 +1,4 @@
 use Rattle.std.proofs.Common.{arith, ◌≡◌, ◌≤◌, ◌++◌, ◌+◌, ◌∷◌, [], true, List, ℕ, Some, ap, sym, ◌∙◌, length, get_or, take, take_all}
-use Rattle.std.specs.Str.{bytes_eq}
-use Rattle.std.proofs.lemmas.Slice.Eq.{bytes_eq-Decides}
 use Rattle.symbol_table.specs.Category.{draft_symbols}
 use Rattle.symbol_table.specs.Draft.{given}
 use Rattle.amp_store.specs.Amplitudes.{amplitude_at, amplitude_of}
@@ -10,10 +8,10 @@ use Rattle.recouple.specs.Raises.{raised, raised_at}
 use Rattle.recouple.specs.Rotations.{IsKey}
 use Rattle.recouple.specs.Targets.{key_at, keys_of}
 use Rattle.recouple.specs.declared.sources.Source.{Source}
-use Rattle.recouple.proofs.SourceLemmas.{among_again, among_item, among_last, gathered_same, key_at_is, key_long, keys_one, not_unlike, place_of}
+use Rattle.recouple.proofs.SourceLemmas.{among_again, among_item, among_last, gathered_same, key_at_is, key_long, keys_one, place_of}
 use Rattle.recouple.proofs.ValueLemmas.{raised_value, amplitude_member}
 use Rattle.recouple.proofs.raising.raise_keys.Goals as goal
-use Rattle.recouple.proofs.raising.raise_keys.Goals.{then-ne+in_ok-value+in_ok-put_unless_zero, else-ne}
+use Rattle.recouple.proofs.raising.raise_keys.Goals.{then-may_differ+in_ok-raised_at+in_ok-put_unless_zero, else-may_differ}
 
 abbrev none : Source
 none = record { order = 0; place = 0; from = 0; to = 0 }
@@ -40,13 +38,13 @@ raised_at-requires-clause-key g c =
     (ap (λ (k : List ℕ). among k (keys_of c.args.rotation.now c.args.amps.now c.args.sources.now)) c.new_key-key.ensures
     ∙ among_item c.args.rotation.now c.args.amps.now c.args.sources.now c.loop-i.i none c.loop-i-test.true)
 
-pub returns-in_err-value-clause-too_large : goal.returns-in_err-value-clause-too_large
-returns-in_err-value-clause-too_large g c _ = (
+pub returns-in_err-raised_at-clause-too_large : goal.returns-in_err-raised_at-clause-too_large
+returns-in_err-raised_at-clause-too_large g c _ = (
   c.new_key-key.result.items,
   c.requires.keys c.new_key-key.result.items
       (ap (λ (k : List ℕ). among k (keys_of c.args.rotation.now c.args.amps.now c.args.sources.now)) c.new_key-key.ensures
       ∙ among_item c.args.rotation.now c.args.amps.now c.args.sources.now c.loop-i.i none c.loop-i-test.true),
-  c.in_err-value.ensures.value,
+  c.in_err-raised_at.ensures.err,
 )
 
 pub loop-i-preserved : goal.loop-i-preserved
@@ -67,20 +65,20 @@ loop-i-preserved g c =
     (ap (λ (k : List ℕ). among k (keys_of rotation amps sources)) c.new_key-key.ensures ∙ among_item rotation amps sources i none c.loop-i-test.true) in
     let more : keys_of rotation amps (take (i + 1) sources) ≡ done ++ a ∷ [] =
     keys_one rotation amps sources i none c.loop-i-test.true ∙ ap (λ (k : List ℕ). done ++ k ∷ []) (sym c.new_key-key.ensures) in
-    elim c.if-ne.branch [
-      | then-ne+in_ok-value+in_ok-put_unless_zero w ↦
-          let stated : raised_at s strands rotation v a ≡ Some w.in_ok-value.value = w.in_ok-value.ensures.value in
-          let value : w.in_ok-value.value ≡ raised s strands rotation v a =
-          raised_value laws (given c.args.category.now) strands rotation v (amplitude_member laws s.count (length strands) amps c.requires.amps) a w.in_ok-value.value stated in
+    elim c.if-may_differ.branch [
+      | then-may_differ+in_ok-raised_at+in_ok-put_unless_zero w ↦
+          let stated : raised_at s strands rotation v a ≡ Some w.raised_at.new.sum = w.in_ok-raised_at.ensures.ok in
+          let value : w.raised_at.new.sum ≡ raised s strands rotation v a =
+          raised_value laws (given c.args.category.now) strands rotation v (amplitude_member laws s.count (length strands) amps c.requires.amps) a w.raised_at.new.sum stated in
           record {
             entries = λ x. rw more (ap (λ n. amplitude_at n x) w.new-is
-                ∙ gathered_step g.R.StarRing.held (raised s strands rotation v) (amplitude_at c.loop-i.new) (amplitude_at w.put_unless_zero.new.amps) done a w.in_ok-value.value value
+                ∙ gathered_step g.R.StarRing.held (raised s strands rotation v) (amplitude_at c.loop-i.new) (amplitude_at w.put_unless_zero.new.amps) done a w.raised_at.new.sum value
                 w.in_ok-put_unless_zero.ensures c.loop-i.invariant.entries x);
-            fits = λ x. rw more (fits_step (raised_at s strands rotation v) done a w.in_ok-value.value stated c.loop-i.invariant.fits x);
+            fits = λ x. rw more (fits_step (raised_at s strands rotation v) done a w.raised_at.new.sum stated c.loop-i.invariant.fits x);
             last = λ x long e. rw more (among_last x a done (ap (λ k. k.items) (sym w.last-is) ∙ e));
           }
-      | else-ne w ↦
-          let same : a ≡ c.loop-i.last.items = (bytes_eq-Decides a c.loop-i.last.items).0 (not_unlike (bytes_eq a c.loop-i.last.items) c.ne.result c.ne.ensures w.if-ne.false) in
+      | else-may_differ w ↦
+          let same : a ≡ c.loop-i.last.items = c.may_differ.ensures w.if-may_differ.false in
           let known : among a done ≡ true = c.loop-i.invariant.last a (key_long s.count (length strands) rotation.node a is c.requires.rotation.node) (sym same) in
           record {
             entries = λ x. rw more (ap (λ n. amplitude_at n x) w.new-is
