@@ -7,9 +7,10 @@ use Rattle.cyclo_core.specs.Ratio.{Ratio}
 use Rattle.fusion_rules.specs.First.{first_from, first_below}
 use Rattle.fusion_rules.proofs.FaultLemmas.{next}
 use Rattle.symbol_table.specs.Symbols.{Symbols}
+use Rattle.symbol_table.specs.Laws.{fuse_all}
 use Rattle.symbol_table.specs.declared.law.Triple.{Triple}
 use Rattle.law_events.specs.First.{all_within, first_over, fuse_known}
-use Rattle.law_events.proofs.Left.{none_over, not_admissible}
+use Rattle.law_events.proofs.Left.{none_over, not_admissible, whole}
 use Rattle.category_images.specs.Places.{first_in, missing_at, places, triples}
 use Rattle.category_images.specs.Making.{AllStand, IsFilled, Fills, IsOf, IsStop, Keeps, StandOver, StandsAt}
 use Rattle.category_images.specs.declared.place.Place.{Place}
@@ -34,6 +35,10 @@ all_known H = refl
 all_known S = refl
 all_known Twist = refl
 all_known Loop = refl
+
+-- a whole index that goes on is admissible
+pub whole_index : (fuse : ℕ → ℕ → ℕ → Bool) (symbol : Symbol) (index : List ℕ) → length index ≡ places symbol → fuse_known fuse index (triples symbol) ≡ true → fuse_all fuse index (triples symbol) ≡ true
+whole_index fuse symbol index long known = whole fuse index (triples symbol) (subst (λ n. all_within n (triples symbol) ≡ true) (sym long) (all_known symbol)) known
 
 not_both : {b : Bool} → b ≡ false → b ≡ true → ⊥
 not_both {b} x y = cc

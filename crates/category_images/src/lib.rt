@@ -9,6 +9,11 @@
 //! - *first place*: the first item without a value: of F, R, w, v, H, S, twists and loop values in this order, and of
 //!   each in the order of its labels (`specs/Places.antt`).
 //! - *made*: a category with the wanted symbols (`specs/Answers.antt`). What these are stands in `image_laws`.
+//! - *has rules, has marks*: what is known of the wanted symbols before any is made (`specs/Patterns.antt`); a pattern is
+//!   what knows them and evaluates each item (`src/pattern.rt`).
+//! - *stands, is right*: a value was put, and it is the wanted one (`specs/Making.antt`).
+//! - *fills*: what a walk over the indices of one symbol does, or the first place at which it stops
+//!   (`specs/Making.antt`).
 //!
 //! Sources: Wang, CBMS 112, on Galois conjugates and products of unitary modular categories; Kitaev 2006, Appendix E, on
 //! mirrors.
@@ -34,3 +39,6 @@ pub use images::{galois, mirror};
 pub use names::product_names;
 pub use place::{Place, Symbol};
 pub use products::product;
+
+#[cfg(test)]
+mod tests;

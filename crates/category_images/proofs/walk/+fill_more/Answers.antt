@@ -3,15 +3,23 @@ use Rattle.std.proofs.lemmas.Result.{err_from_is_err_and}
 use Rattle.std.proofs.lemmas.List.{length_push}
 use Rattle.std.proofs.lemmas.List.Elements.{All-push}
 use Rattle.fusion_rules.specs.Fusion.{Fusion, fuses}
+use Rattle.law_events.specs.First.{fuse_known}
 use Rattle.category_images.specs.Places.{triples}
-use Rattle.category_images.proofs.WalkLemmas.{fuse_known_same, one_more, stuck_fills, walk_ends, walk_stops}
+use Rattle.category_images.proofs.WalkLemmas.{fuse_known_same, one_more, stuck_fills, walk_ends, walk_stops, whole_index}
 use Rattle.category_images.proofs.walk.+fill_more.Goals as goal
 
 pub returns-then-not-fuse_known : goal.returns-then-not-fuse_known
 returns-then-not-fuse_known g t c =
     let w = g.P.Pattern.wanted c.args.pattern.now in
-    let known = rw (c.rules.ensures, c.as_slice.ensures.value, c.triples.ensures, c.law.ensures.triples) at (sym c.fuse_known.ensures ∙ c.if-not-fuse_known.true) in
+    let known = rw (c.rules.ensures, c.as_slice.ensures.value, c.triples.ensures, c.law.ensures.triples) at (sym {b = fuse_known (fuses c.rules.result.now) c.as_slice.result.now c.triples.result.now} c.fuse_known.ensures ∙ c.if-not-fuse_known.true) in
     stuck_fills (g.P.Pattern.number c.args.pattern.now) w (g.P.Pattern.stated c.args.pattern.now) (tt {0}) c.args.symbol c.args.more c.args.index c.args.made.now c.requires.of
+    (sym (fuse_known_same (fuses c.args.made.now.draft.rules) w.fuse c.requires.of.fuse c.args.index (triples c.args.symbol)) ∙ known)
+
+pub fill_at-requires-clause-admissible : goal.fill_at-requires-clause-admissible
+fill_at-requires-clause-admissible g t c =
+    let w = g.P.Pattern.wanted c.args.pattern.now in
+    let known = rw (c.rules.ensures, c.as_slice.ensures.value, c.triples.ensures, c.law.ensures.triples) at (sym {b = fuse_known (fuses c.rules.result.now) c.as_slice.result.now c.triples.result.now} c.fuse_known.ensures ∙ c.if-not-fuse_known.false) in
+    whole_index w.fuse c.args.symbol c.args.index (omega arith)
     (sym (fuse_known_same (fuses c.args.made.now.draft.rules) w.fuse c.requires.of.fuse c.args.index (triples c.args.symbol)) ∙ known)
 
 pub fill_more-requires : goal.fill_more-requires
