@@ -11,6 +11,7 @@ ghost use Rattle.word_runs.specs.Runs.{Runs};
 ghost use Rattle.comb_laws.specs.Plans.{outcomes_of};
 ghost use Rattle.outcome_rows.specs.Commands.{AreRunnable};
 ghost use Rattle.outcome_rows.specs.Rows.{outcomes_in};
+ghost use Rattle.sum_laws.specs.RowSums.{SumsToTotal};
 ghost use Rattle.comb_run.specs.Evaluated.{comb_told, evaluation_of};
 
 use crate::engine::CombEngine;
@@ -21,6 +22,7 @@ use outcome_rows::{Rows, text_commands, text_outcomes};
 use program_text::{Command, Plan};
 use ring_laws::StarRing;
 use std::alloc::Global;
+use sum_laws::laws::sums;
 use symbol_table::Category;
 use symbol_table::laws::all_labels;
 use tree_shapes::Tree;
@@ -76,7 +78,11 @@ pub fn comb_run<R: StarRing>(
     // It stops exactly where the stated evaluation does.
     ensures evaluated { let c = symbols R.StarRing category.now in
         Runs outcomes_in result (evaluation_of c (labelled plan.now.start) (commands_in (program_of plan.now).sites)) }
+    // The weights of the rows sum to the total, as ring values.
+    ensures sums { IfOk result (λ rows. SumsToTotal (symbols R.StarRing category.now).ring (outcomes_in rows)) }
 {
+    // What the rows sum to.
+    sums(category);
     let commands = text_commands(alloc, plan)?;
     comb_rows(alloc, category, &plan.start, commands.as_slice())
 }

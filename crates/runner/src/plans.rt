@@ -14,6 +14,7 @@ ghost use Rattle.comb_laws.specs.Plans.{outcomes_of};
 ghost use Rattle.site_schedule.specs.Legal.{IsLegal};
 ghost use Rattle.outcome_rows.specs.Ends.{StopsAs};
 ghost use Rattle.outcome_rows.specs.Rows.{outcomes_in};
+ghost use Rattle.sum_laws.specs.RowSums.{SumsToTotal};
 ghost use Rattle.runner.specs.Evaluated.{scheduled_ends, scheduled_weights};
 ghost use Rattle.runner.specs.Outcomes.{AreWordsOf};
 ghost use Rattle.runner.specs.Trees.{IsTreeState};
@@ -27,6 +28,7 @@ use recouple::TreeState;
 use ring_laws::StarRing;
 use site_schedule::Schedule;
 use std::alloc::Global;
+use sum_laws::laws::sums;
 use symbol_table::Category;
 use word_runs::{LiveWord, RunFault};
 
@@ -52,9 +54,12 @@ pub fn run<R: StarRing>(
     // It stops exactly where the stated evaluation does.
     ensures stated { let c = symbols R.StarRing category.now in
         StopsAs result (scheduled_weights c (program_of plan.now) schedule.now.turns.items) }
+    // The weights of the rows sum to the total, as ring values.
+    ensures sums { IfOk result (λ rows. SumsToTotal (symbols R.StarRing category.now).ring (outcomes_in rows)) }
 {
-    // What the rows mean.
+    // What the rows mean, and what they sum to.
     rows(category);
+    sums(category);
     let turns = turns_of(alloc, plan, schedule)?;
     let start = begin(alloc, category, &plan.start)?;
     rows_from(alloc, category, start, &turns)

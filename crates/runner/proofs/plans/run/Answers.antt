@@ -1,4 +1,4 @@
-use Rattle.std.proofs.Common.{◌≡◌, ℕ, List, subst}
+use Rattle.std.proofs.Common.{◌≡◌, ℕ, List, subst, sym}
 use Rattle.std.specs.Prelude.{IfOk}
 use Rattle.symbol_table.specs.Category.{draft_symbols}
 use Rattle.program_text.specs.Program.{program_of}
@@ -10,6 +10,7 @@ use Rattle.charge_project.specs.Weights.{stated_weight}
 use Rattle.outcome_rows.specs.Ends.{AreOutcomesOf, StopsAs, weighed_ends}
 use Rattle.outcome_rows.specs.Rows.{outcomes_in}
 use Rattle.outcome_rows.proofs.RowLemmas.{if_ok_map}
+use Rattle.sum_laws.specs.RowSums.{SumsToTotal}
 use Rattle.runner.specs.Outcomes.{AreScheduled}
 use Rattle.runner.specs.Trees.{tree_told}
 use Rattle.runner.proofs.TurnLemmas.{turns_few, turns_fit}
@@ -35,6 +36,13 @@ returns-clause-rows g c =
     (subst (λ (x : ℕ × ℕ × List Letter × State g.row.R-Elem.Denot). IfOk c.rows_from.result (λ rows. AreOutcomesOf (tree_told s x.0) (stated_weight s) s.held.is_zero x.1 x.2 x.3 (outcomes_in rows)))
     (λ j. (c.in_ok-start.ensures.state.long j, c.in_ok-turns.ensures.places j, c.in_ok-turns.ensures.letters j, c.in_ok-start.ensures.value j)) c.rows_from.ensures.outcomes)
     (λ rows made. c.rows.ensures.outcomes p schedule (outcomes_in rows) c.requires.program c.requires.legal made)
+
+pub returns-clause-sums : goal.returns-clause-sums
+returns-clause-sums g c =
+    let s = draft_symbols (g.R.StarRing.ring c.args.category.now.ring) g.R.StarRing.held c.args.category.now in
+    let p = program_of c.args.plan.now in
+    if_ok_map (λ rows. outcomes_in rows ≡ outcomes_of s p.start (commands_in p.sites)) (λ rows. SumsToTotal s.ring (outcomes_in rows)) c.rows_from.result (returns-clause-rows g c)
+    (λ rows is. subst (SumsToTotal s.ring) (sym is) (c.sums.ensures.programs p c.requires.program))
 
 pub returns-clause-stated : goal.returns-clause-stated
 returns-clause-stated g c =
