@@ -5,3 +5,4 @@ pub mod PairLemmas
 pub mod PutLemmas
 pub mod RuleLemmas
 pub mod WalkLemmas
+mod Tried

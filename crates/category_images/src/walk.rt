@@ -13,6 +13,7 @@ use crate::place::{Place, Symbol};
 use fusion_rules::Rules;
 use symbol_table::{Labels, Triple};
 
+/// Whether a triple lies within so many places.
 fn is_within(triple: &Triple, places: usize) -> bool
     ensures { result ≡ within places triple.now }
 {
