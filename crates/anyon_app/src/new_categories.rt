@@ -11,7 +11,9 @@ ghost use Rattle.anyon_app.specs.Stages.{Gives, StopsWith, Worked};
 
 use crate::judge::Admitted;
 use crate::programs::load_admitted;
-use crate::refusals::{exponent_line, place_line, product_labels_line, product_roots_line, product_version_line};
+use crate::refusals::{
+    exponent_line, place_line, product_labels_line, product_roots_line, product_version_line,
+};
 use crate::stop::Stop;
 use crate::texts::Kind;
 use category_images::{ImageFault, Place, ProductFault, product_names};

@@ -110,16 +110,20 @@ fn command_of(words: &[String]) -> Option<Command<'_>>
 {
     match words {
         [command, first] => one_word(command.as_str(), first.as_str()),
-        [command, first, second] => {
-            two_words(command.as_str(), first.as_str(), second.as_str())
-        }
+        [command, first, second] => { two_words(command.as_str(), first.as_str(), second.as_str()) }
         [command, category, program, schedule] => {
             let (category, program) = (category.as_str(), program.as_str());
             three_words(command.as_str(), category, program, schedule.as_str())
         }
         [command, category, first, second, moves] => {
             let (category, first) = (category.as_str(), first.as_str());
-            four_words(command.as_str(), category, first, second.as_str(), moves.as_str())
+            four_words(
+                command.as_str(),
+                category,
+                first,
+                second.as_str(),
+                moves.as_str(),
+            )
         }
         _ => None,
     }
