@@ -1,4 +1,6 @@
 // Faults of shelves and sinks in turn, and long texts. Worked rows stand in the crate `anyon_rows`.
+ghost use Rattle.std.specs.Prelude.{◌<◌};
+
 use anyon_app::{Status, anyon};
 use io_ports::{MemShelf, MemSink};
 use std::alloc::{AllocError, Global};
@@ -17,6 +19,13 @@ const MEASURED: &str = "program 1\nstart (((t t):1 t):t t):1\nmeasure 2\n";
 // The one turn of its one site.
 const TURN: &str = "schedule 1\nmain\n";
 
+// No moves, the marks of the category, and a category of version 2.
+const MOVES: &str = "moves 1\n";
+
+const MARKS: &str = "marks 1\ntwist t 0,0,1\nloop t 0,0,-1,-1\n";
+
+const SECOND: &str = "category 2\nroot 1\nlabels 1\n";
+
 const ROWS: &str = "total 2,0,1,1\noutcome 1 weight 5,0,3,3\noutcome t weight -3,0,-2,-2\n";
 
 fn joined(alloc: Global, first: &str, second: &str) -> Result<Vec<u8>, AllocError> {
@@ -25,18 +34,22 @@ fn joined(alloc: Global, first: &str, second: &str) -> Result<Vec<u8>, AllocErro
     Ok(text)
 }
 
-// The category, the program and a schedule, as the texts CAT, PROG and SCHED.
+// All texts, by their names.
 fn files(alloc: Global) -> Result<Vec<(String, Vec<u8>)>, AllocError> {
     let mut files = Vec::new(alloc);
-    files.push((
-        String::from_str(alloc, "CAT")?,
-        joined(alloc, FIB, FIB_TAIL)?,
-    ))?;
-    files.push((
-        String::from_str(alloc, "PROG")?,
-        joined(alloc, MEASURED, "")?,
-    ))?;
-    files.push((String::from_str(alloc, "SCHED")?, joined(alloc, TURN, "")?))?;
+    for (name, first, second) in [
+        ("CAT", FIB, FIB_TAIL),
+        ("PROG", MEASURED, ""),
+        ("SCHED", TURN, ""),
+        ("MOVES", MOVES, ""),
+        ("MARKS", MARKS, ""),
+        ("SECOND", SECOND, ""),
+    ] {
+        files.push((
+            String::from_str(alloc, name)?,
+            joined(alloc, first, second)?,
+        ))?;
+    }
     Ok(files)
 }
 
@@ -56,44 +69,62 @@ fn no_words(rt: HostRuntime) -> Result<(), Fail> {
     Ok(())
 }
 
-// Each call of the shelf, and then each call of the sink, fails in turn.
+// Each call of the shelf, and then each call of the sink, fails in turn, with steps of 1 byte, of 7 and of all.
 #[test]
 fn faults(rt: HostRuntime) -> Result<(), Fail> {
     let alloc = rt.alloc();
-    fail_each(&rt, alloc, "run CAT PROG SCHED", ROWS.as_bytes())?;
-    fail_each(&rt, alloc, "comb CAT PROG", ROWS.as_bytes())?;
-    fail_each(&rt, alloc, "check CAT", b"accepted root 5 labels 2\n")?;
-    fail_each(&rt, alloc, "format CAT", &joined(alloc, FIB, FIB_TAIL)?)?;
+    for line in [
+        "run CAT PROG",
+        "run CAT PROG SCHED",
+        "trees CAT PROG",
+        "trees CAT PROG SCHED",
+        "comb CAT PROG",
+        "linked CAT PROG PROG MOVES",
+        "check CAT",
+        "format CAT",
+        "upgrade CAT MARKS",
+        "galois CAT 2",
+        "mirror CAT",
+        "product SECOND SECOND",
+    ] {
+        for step in [1, 7, 4096] {
+            fail_each(&rt, alloc, line, step)?;
+        }
+    }
+    fail_each(&rt, alloc, "make 2", 7)?;
     Ok(())
 }
 
-fn fail_each(rt: &impl Abort, alloc: Global, line: &str, bytes: &[u8]) -> Result<(), AllocError> {
+fn fail_each(rt: &impl Abort, alloc: Global, line: &str, step: usize) -> Result<(), AllocError>
+    requires { 0 < step }
+{
     let words = words(alloc, line)?;
 
-    let mut shelf = MemShelf::new(files(alloc)?, Vec::new(alloc), 64);
-    let mut sink = MemSink::new(alloc, 300, Vec::new(alloc), 16)?;
-    assert_eq!(rt;
-        anyon(alloc, words.as_slice(), &mut shelf, &mut sink),
-        Status::Done
-    );
-    assert_eq!(rt; sink.taken(), bytes);
+    let mut shelf = MemShelf::new(files(alloc)?, Vec::new(alloc), step);
+    let mut whole = MemSink::new(alloc, 300, Vec::new(alloc), step)?;
+    let status = anyon(alloc, words.as_slice(), &mut shelf, &mut whole);
+    assert_eq!(rt; status, Status::Done, "{line}");
 
     for k in 0..shelf.calls() {
-        let mut shelf = MemShelf::new(files(alloc)?, vec![in alloc; k + 1]?, 64);
-        let mut sink = MemSink::new(alloc, 300, Vec::new(alloc), 16)?;
+        let mut shelf = MemShelf::new(files(alloc)?, vec![in alloc; k + 1]?, step);
+        let mut sink = MemSink::new(alloc, 300, Vec::new(alloc), step)?;
         let status = anyon(alloc, words.as_slice(), &mut shelf, &mut sink);
-        assert_eq!(rt; status, Status::ReadFault, "read {k}");
-        assert_eq!(rt; sink.taken().len(), 0, "read {k}");
+        assert_eq!(rt; status, Status::ReadFault, "{line}, read {k}");
+        assert_eq!(rt; sink.taken().len(), 0, "{line}, read {k}");
     }
-    for k in 0..sink.calls() {
-        let mut shelf = MemShelf::new(files(alloc)?, Vec::new(alloc), 64);
-        let mut sink = MemSink::new(alloc, 300, vec![in alloc; k + 1]?, 16)?;
+    for k in 0..whole.calls() {
+        let mut shelf = MemShelf::new(files(alloc)?, Vec::new(alloc), step);
+        let mut sink = MemSink::new(alloc, 300, vec![in alloc; k + 1]?, step)?;
         let status = anyon(alloc, words.as_slice(), &mut shelf, &mut sink);
-        assert_eq!(rt; status, Status::WriteFault, "write {k}");
+        assert_eq!(rt; status, Status::WriteFault, "{line}, write {k}");
         assert_eq!(rt;
             sink.taken().len() as u64,
-            k.saturating_mul(16),
-            "write {k}"
+            k.saturating_mul(step as u64),
+            "{line}, write {k}"
+        );
+        assert!(rt;
+            whole.taken().starts_with(sink.taken()),
+            "{line}, write {k}"
         );
     }
     Ok(())
