@@ -10,8 +10,9 @@
 //! - *total*: a sum over the labels below a count (`specs/Sums.antt`).
 #![tactic(auto)]
 
-ghost use Rattle.std.specs.Prelude.{◌≡◌, ◌↔◌, IsTrue, IsOk, IfOk};
+ghost use Rattle.std.specs.Prelude.{◌≡◌, ◌↔◌, None, Some, IsTrue, IsOk, IfOk, OnErr, OnOk};
 ghost use Rattle.ring_laws.specs.Ring.{Ring, Held, RingLaws};
+ghost use Rattle.ring_laws.specs.Stated.{add_product_at};
 
 pub mod laws;
 mod stated;
@@ -69,6 +70,23 @@ pub trait StarRing: Drop {
         ensures holds { IfOk result (λ z. IsTrue (held.can_hold z)) }
         ensures left_held { IsTrue (held.can_hold x.now) }
         ensures right_held { IsTrue (held.can_hold y.now) };
+
+    /// Adds the product of two members to a third, in its place: first the product, then the sum with it.
+    ///
+    /// Answers [`Overflow`] exactly where one of the two doesn't fit, and the sum is then what it was.
+    fn add_product_to(
+        &self,
+        sum: &mut Self::Elem,
+        x: &Self::Elem,
+        y: &Self::Elem,
+    ) -> Result<(), Overflow>
+        requires sum { IsTrue ((ring self.now).member sum.old) }
+        requires left { IsTrue ((ring self.now).member x.now) }
+        requires right { IsTrue ((ring self.now).member y.now) }
+        ensures ok { OnOk result (add_product_at (ring self.now) sum.old x.now y.now ≡ Some sum.new) }
+        ensures err { OnErr result (add_product_at (ring self.now) sum.old x.now y.now ≡ None) }
+        ensures kept { OnErr result (sum.new ≡ sum.old) }
+        ensures member { IsTrue ((ring self.now).member sum.new) };
 
     /// The negative of a member.
     fn neg(&self, x: &Self::Elem) -> Self::Elem

@@ -61,8 +61,12 @@ fn a_product_on_top_of_a_sum(rt: HostRuntime) -> Result<(), Fail> {
         (0, MOST, 1, Ok(MOST)),
     ];
     for (sum, x, y, answer) in rows {
-        let (sum, x, y) = (int(sum)?, int(x)?, int(y)?);
+        let (mut sum, x, y) = (int(sum)?, int(x)?, int(y)?);
+        let before = sum.get();
         assert_eq!(rt; add_product(&Whole, &sum, &x, &y).map(|z| z.get()), answer);
+        let after = Whole.add_product_to(&mut sum, &x, &y).map(|()| sum.get());
+        assert_eq!(rt; after, answer);
+        assert_eq!(rt; sum.get(), answer.unwrap_or(before));
     }
     Ok(())
 }
