@@ -5,4 +5,5 @@ pub mod ImageLemmas
 pub mod NumberLemmas
 pub mod SmallLemmas
 pub mod SumLemmas
+pub mod WholeLemmas
 mod Tried

@@ -86,6 +86,21 @@ row_none x y r a v e =
     let term : (b : ℕ) → row_term (x a) y r a b ≡ pos 0 = λ b. ap (λ z. (z *ℤ y b) *ℤ r (a + b)) e ∙ ap (λ z. z *ℤ r (a + b)) (none_times (y b)) ∙ none_times (r (a + b)) in
     sym (ap (λ z. v +ℤ z) (zero_sum 16 (row_term (x a) y r a) term) ∙ plus_none v)
 
+-- the products of a coefficient with as many others as there are
+pub row_cut : (end a : ℕ) (x y r : Sequence) → end ≤ 16 → ((k : ℕ) → end ≤ k → y k ≡ pos 0) → int_sum end (row_term (x a) y r a) ≡ row_sum x y r a
+row_cut end a x y r few ends =
+    let whole : end + (16 - end) ≡ 16 = omega (arith, few) in
+    let past : (b : ℕ) → end ≤ b → row_term (x a) y r a b ≡ pos 0 =
+    λ b le. ap (λ z. (x a *ℤ z) *ℤ r (a + b)) (ends b le) ∙ ap (λ z. z *ℤ r (a + b)) (times_none (x a)) ∙ none_times (r (a + b)) in
+    sym (ap (λ m. int_sum m (row_term (x a) y r a)) (sym whole) ∙ int_sum-past end (16 - end) (row_term (x a) y r a) past)
+
+-- coefficients that are zero from some place on
+pub weighed_cut : (end : ℕ) (c : List ℤ) (r : Sequence) → end ≤ 32 → ((k : ℕ) → end ≤ k → at c k ≡ pos 0) → int_sum end (weight (at c) r) ≡ weighed c r
+weighed_cut end c r few ends =
+    let whole : end + (32 - end) ≡ 32 = omega (arith, few) in
+    let past : (k : ℕ) → end ≤ k → weight (at c) r k ≡ pos 0 = λ k le. ap (λ z. z *ℤ r k) (ends k le) ∙ none_times (r k) in
+    sym (ap (λ m. int_sum m (weight (at c) r)) (sym whole) ∙ int_sum-past end (32 - end) (weight (at c) r) past)
+
 -- a loop before its first term
 pub none_yet : (v : ℤ) (f : ℕ → ℤ) → v ≡ v +ℤ int_sum 0 f
 none_yet v f = sym (ap (λ z. v +ℤ z) (int_sum-none f) ∙ plus_none v)
@@ -168,12 +183,7 @@ row_is : (N : ℕ) (x y xs ys : List ℤ) (j a : ℕ) → IsCut (degree N) x xs 
     → row_sum (at xs) (at ys) (column N j) a ≡ int_sum (degree N) (product_term N (at x) (at y) j a)
 row_is N x y xs ys j a cut_x cut_y lt =
     let n = degree N in
-    let r : Sequence = column N j in
-    let whole : n + (16 - n) ≡ 16 = omega (arith, degree_small N) in
-    let past : (b : ℕ) → n ≤ b → row_term (at xs a) (at ys) r a b ≡ pos 0 =
-    λ b le. ap (λ z. (at xs a *ℤ z) *ℤ r (a + b)) (cut_y.rest b le) ∙ ap (λ z. z *ℤ r (a + b)) (times_none (at xs a)) ∙ none_times (r (a + b)) in
-    ap (λ m. int_sum m (row_term (at xs a) (at ys) r a)) (sym whole)
-    ∙ int_sum-past n (16 - n) (row_term (at xs a) (at ys) r a) past
+    sym (row_cut n a (at xs) (at ys) (column N j) (degree_small N) cut_y.rest)
     ∙ int_sum-same n _ _ (λ b below.
     ap₂ (λ u v. (u *ℤ v) *ℤ rho N (a + b) j) (cut_x.value a lt) (cut_y.value b below)
     ∙ ap (λ (f : Sequence). (at x a *ℤ at y b) *ℤ f j) (sym (rho_mod N (a + b))))

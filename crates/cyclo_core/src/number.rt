@@ -1,5 +1,6 @@
 //! Numbers of one root, and their ring.
-ghost use Rattle.std.specs.Prelude.{◌≡◌, ◌↔◌, ℕ, ℤ, pos, ◌≤◌, ◌<◌, ◌^◌, ◌-◌, ◌*◌, ◌/◌, unsigned_abs, length, IsTrue, IsOk, IfOk};
+ghost use Rattle.std.specs.Prelude.{◌≡◌, ◌↔◌, ℕ, ℤ, pos, ◌≤◌, ◌<◌, ◌^◌, ◌-◌, ◌*◌, ◌/◌, unsigned_abs, length, false, Some, IsTrue, IsOk, IfOk};
+ghost use Rattle.ring_laws.specs.Stated.{add_product_at};
 ghost use Rattle.poly_core.specs.Gcd.{totient};
 ghost use Rattle.poly_core.specs.Rho.{is_accepted, degree, order};
 ghost use Rattle.poly_core.specs.Table.{at};
@@ -11,6 +12,7 @@ ghost use Rattle.cyclo_core.specs.Ratio.{reduced, is_held, ring_at};
 use crate::cancel::{content, divided, gcd, quotients};
 use crate::fault::NumberFault;
 use crate::image::image_numerators;
+use crate::small::{add_all, have_room, whole_product};
 use crate::sums::{conjugate, negated, product, sum};
 use poly_core::{PowerTable, RootRefused, powers};
 use ring_laws::{Overflow, StarRing};
@@ -90,6 +92,27 @@ fn denominators(d: u128, e: u128) -> Result<u128, Overflow>
         Some(m) if m <= i128::MAX as u128 => Ok(m),
         _ => Err(Overflow),
     }
+}
+
+/// Adds the product of two numbers to a third in place, where all three are over 1 and 64 bits are enough for the
+/// product. Answers whether it did.
+fn add_whole_product(powers: &PowerTable, sum: &mut Number, x: &Number, y: &Number) -> bool
+    requires { IsTrue ((ring_at powers.now).member sum.old) }
+    ensures value { IsTrue result → add_product_at (ring_at powers.now) sum.old x.now y.now ≡ Some sum.new }
+    ensures member { IsTrue ((ring_at powers.now).member sum.new) }
+    ensures kept { result ≡ false → sum.new ≡ sum.old }
+{
+    if sum.denominator != 1 || x.denominator != 1 || y.denominator != 1 {
+        return false;
+    }
+    if !have_room(&sum.numerators) {
+        return false;
+    }
+    let Some(product) = whole_product(powers, &x.numerators, &y.numerators) else {
+        return false;
+    };
+    add_all(&mut sum.numerators, &product);
+    true
 }
 
 /// The ring of the cyclotomic numbers of one root.
@@ -250,6 +273,15 @@ impl StarRing for Cyclo {
         let numerators = product(&self.powers, &x.numerators, &y.numerators)?;
         let denominator = denominators(x.denominator, y.denominator)?;
         Ok(cancelled(&numerators, denominator))
+    }
+
+    fn add_product_to(&self, sum: &mut Number, x: &Number, y: &Number) -> Result<(), Overflow> {
+        if add_whole_product(&self.powers, sum, x, y) {
+            return Ok(());
+        }
+        let product = self.mul(x, y)?;
+        *sum = self.add(sum, &product)?;
+        Ok(())
     }
 
     fn neg(&self, x: &Number) -> Number {

@@ -1,5 +1,5 @@
 //! Products of numbers with small numerators, in 64 bits.
-ghost use Rattle.std.specs.Prelude.{◌≡◌, ◌≢◌, ℕ, pos, ◌+◌, ◌*◌, ◌-◌, ◌%◌, ◌^◌, ◌<◌, ◌≤◌, ◌+ℤ◌, ◌*ℤ◌, unsigned_abs, IfSome, length};
+ghost use Rattle.std.specs.Prelude.{◌≡◌, ◌≢◌, ℕ, pos, ◌+◌, ◌*◌, ◌-◌, ◌%◌, ◌^◌, ◌<◌, ◌≤◌, ◌+ℤ◌, ◌*ℤ◌, unsigned_abs, IfSome, IsTrue};
 ghost use Rattle.poly_core.specs.Combination.{Sequence};
 ghost use Rattle.poly_core.specs.Rho.{degree, order, rho};
 ghost use Rattle.poly_core.specs.Table.{at};
@@ -12,6 +12,9 @@ use poly_core::PowerTable;
 
 /// The greatest magnitude of a small numerator, 2^24.
 const SMALL: i128 = 16777216;
+
+/// The greatest magnitude that leaves room for a sum, 2^126.
+const ROOM: i128 = 1 << 126;
 
 /// A numerator, where its magnitude is at most 2^24.
 fn narrow(x: &i128) -> Option<i32>
@@ -84,34 +87,39 @@ fn add_at(c: &mut [i64; 32], k: usize, x: &i32, y: &i32)
     c[k] = plus(&c[k], &times(x, y));
 }
 
-/// The products of the coefficient at a with all of y.
-fn add_row(c: &mut [i64; 32], x: &[i32; 16], y: &[i32; 16], a: usize)
+/// The products of the coefficient at a with those of y, which are zero from `end` on.
+fn add_row(c: &mut [i64; 32], x: &[i32; 16], y: &[i32; 16], a: usize, end: usize)
     requires row { a < 16 }
+    requires few { end ≤ 16 }
     requires x { AreUpTo (2 ^ 24) x.now }
     requires y { AreUpTo (2 ^ 24) y.now }
+    requires ends { (k : ℕ) → end ≤ k → at y.now k ≡ pos 0 }
     requires room { AreUpTo (a * 2 ^ 52) c.old }
     ensures value { (r : Sequence) → weighed c.new r ≡ weighed c.old r +ℤ row_sum (at x.now) (at y.now) r a }
     ensures small { AreUpTo ((a + 1) * 2 ^ 52) c.new }
+    ensures past { (k : ℕ) → a + end ≤ k → at c.new k ≡ at c.old k }
 {
     if x[a] == 0 {
         return;
     }
-    for b in 0..16 {
+    for b in 0..end {
         add_at(c, a + b, &x[a], &y[b]);
     }
 }
 
-/// The coefficients of the product of the first `end` of x with y.
+/// The coefficients of the product of the first `end` of x with those of y, which are zero from `end` on.
 fn convolved(x: &[i32; 16], y: &[i32; 16], end: usize) -> [i64; 32]
     requires few { end ≤ 16 }
     requires x { AreUpTo (2 ^ 24) x.now }
     requires y { AreUpTo (2 ^ 24) y.now }
+    requires ends { (k : ℕ) → end ≤ k → at y.now k ≡ pos 0 }
     ensures value { (r : Sequence) → weighed result r ≡ int_sum end (row_sum (at x.now) (at y.now) r) }
     ensures small { AreUpTo (2 ^ 56) result }
+    ensures past { (k : ℕ) → 2 * end ≤ k → at result k ≡ pos 0 }
 {
     let mut c = [0i64; 32];
     for a in 0..end {
-        add_row(&mut c, x, y, a);
+        add_row(&mut c, x, y, a, end);
     }
     c
 }
@@ -174,22 +182,38 @@ fn add_power(out: &mut [i64; 16], c: &[i64; 32], powers: &PowerTable, k: usize)
     add_multiple(out, &c[k], power_row(powers, k));
 }
 
-/// The sixteen coefficients of the sum of c_k times z^k.
+/// The sixteen coefficients of the sum of c_k times z^k, where the c_k are zero from 2 phi(N) on.
 fn folded(c: &[i64; 32], powers: &PowerTable) -> [i64; 16]
-    requires { AreUpTo (2 ^ 56) c.now }
-    ensures { (j : ℕ) → j < 16 → at result j ≡ weighed c.now (column powers.now j) }
+    requires small { AreUpTo (2 ^ 56) c.now }
+    requires ends { (k : ℕ) → 2 * degree powers.now ≤ k → at c.now k ≡ pos 0 }
+    ensures value { (j : ℕ) → j < 16 → at result j ≡ weighed c.now (column powers.now j) }
+    ensures rest { (j : ℕ) → 16 ≤ j → at result j ≡ pos 0 }
+    ensures size { AreUpTo (2 ^ 62 - 1) result }
 {
     let phi = places(powers);
     let mut out = head(c, phi);
-    for k in phi..32 {
+    for k in phi..2 * phi {
         add_power(&mut out, c, powers, k);
     }
     out
 }
 
-fn wide(x: &[i64; 16]) -> [i128; 16]
-    ensures value { (j : ℕ) → j < 16 → at result j ≡ at x.now j }
-    ensures rest { (j : ℕ) → 16 ≤ j → at result j ≡ pos 0 }
+/// The numerators of a product before cancelling, in 64 bits, where all magnitudes are at most 2^24.
+pub fn whole_product(powers: &PowerTable, x: &[i128; 16], y: &[i128; 16]) -> Option<[i64; 16]>
+    ensures fits { IfSome result (λ _. (j : ℕ) → j < degree powers.now → product_size powers.now (at x.now) (at y.now) j ≤ 2 ^ 127 - 1) }
+    ensures value { IfSome result (λ z. (j : ℕ) → j < degree powers.now → at z j ≡ product_at powers.now (at x.now) (at y.now) j) }
+    ensures rest { IfSome result (λ z. (j : ℕ) → degree powers.now ≤ j → at z j ≡ pos 0) }
+    ensures small { IfSome result (λ z. AreUpTo (2 ^ 62 - 1) z) }
+{
+    let phi = places(powers);
+    let xs = narrowed(x, phi)?;
+    let ys = narrowed(y, phi)?;
+    Some(folded(&convolved(&xs, &ys, phi), powers))
+}
+
+/// Sixteen numbers in 128 bits.
+pub fn wide(x: &[i64; 16]) -> [i128; 16]
+    ensures value { (j : ℕ) → at result j ≡ at x.now j }
     ensures small { (j : ℕ) → unsigned_abs (at result j) ≤ 2 ^ 127 - 1 }
 {
     let mut out = [0i128; 16];
@@ -199,15 +223,35 @@ fn wide(x: &[i64; 16]) -> [i128; 16]
     out
 }
 
-/// The numerators of a product before cancelling, where all magnitudes are at most 2^24.
-pub fn small_product(powers: &PowerTable, x: &[i128; 16], y: &[i128; 16]) -> Option<[i128; 16]>
-    ensures fits { IfSome result (λ _. (j : ℕ) → j < degree powers.now → product_size powers.now (at x.now) (at y.now) j ≤ 2 ^ 127 - 1) }
-    ensures value { IfSome result (λ z. (j : ℕ) → j < degree powers.now → at z j ≡ product_at powers.now (at x.now) (at y.now) j) }
-    ensures rest { IfSome result (λ z. (j : ℕ) → degree powers.now ≤ j → at z j ≡ pos 0) }
-    ensures small { IfSome result (λ z. (j : ℕ) → unsigned_abs (at z j) ≤ 2 ^ 127 - 1) }
+/// Whether all magnitudes are at most 2^126, so that a number of 64 bits can be added to each.
+pub fn have_room(x: &[i128; 16]) -> bool
+    ensures { IsTrue result → (j : ℕ) → unsigned_abs (at x.now j) ≤ 2 ^ 126 }
 {
-    let phi = places(powers);
-    let xs = narrowed(x, phi)?;
-    let ys = narrowed(y, phi)?;
-    Some(wide(&folded(&convolved(&xs, &ys, phi), powers)))
+    for j in 0..16 {
+        if x[j] > ROOM || x[j] < -ROOM {
+            return false;
+        }
+    }
+    true
+}
+
+/// The sum of a number with one of 64 bits.
+fn raised(x: &i128, by: &i64) -> i128
+    requires room { unsigned_abs x.now ≤ 2 ^ 126 }
+    ensures value { result ≡ x.now +ℤ by.now }
+    ensures small { unsigned_abs result ≤ 2 ^ 127 - 1 }
+{
+    let by = *by;
+    *x + i128::from(by)
+}
+
+/// Adds sixteen numbers of 64 bits to as many, which have room for them.
+pub fn add_all(x: &mut [i128; 16], by: &[i64; 16])
+    requires room { (j : ℕ) → unsigned_abs (at x.old j) ≤ 2 ^ 126 }
+    ensures value { (j : ℕ) → at x.new j ≡ at x.old j +ℤ at by.now j }
+    ensures small { (j : ℕ) → unsigned_abs (at x.new j) ≤ 2 ^ 127 - 1 }
+{
+    for j in 0..16 {
+        x[j] = raised(&x[j], &by[j]);
+    }
 }

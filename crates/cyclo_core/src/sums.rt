@@ -5,7 +5,7 @@ ghost use Rattle.poly_core.specs.Table.{at};
 ghost use Rattle.cyclo_core.specs.Ratio.{product_term, product_at, product_size_term, product_size, conjugate_term, conjugate_over, conjugate_size_term, conjugate_size};
 ghost use Rattle.cyclo_core.specs.Sums.{int_sum, nat_sum};
 
-use crate::small::small_product;
+use crate::small::{whole_product, wide};
 use crate::tally::{Tally, add_product, add_term};
 use poly_core::PowerTable;
 use ring_laws::Overflow;
@@ -116,8 +116,8 @@ pub fn product(powers: &PowerTable, x: &[i128; 16], y: &[i128; 16]) -> Result<[i
     ensures rest { IfOk result (λ z. (j : ℕ) → degree powers.now ≤ j → at z j ≡ pos 0) }
     ensures small { IfOk result (λ z. (j : ℕ) → unsigned_abs (at z j) ≤ 2 ^ 127 - 1) }
 {
-    match small_product(powers, x, y) {
-        Some(numerators) => Ok(numerators),
+    match whole_product(powers, x, y) {
+        Some(numerators) => Ok(wide(&numerators)),
         None => plain_product(powers, x, y),
     }
 }

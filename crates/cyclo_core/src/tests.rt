@@ -120,3 +120,40 @@ fn images_at_the_limit(rt: HostRuntime) -> Result<(), Fail> {
     assert!(rt; image(&ring, 2, &number(&ring, &nums, 1)?).is_err());
     Ok(())
 }
+
+#[test]
+fn products_added_in_place(rt: HostRuntime) -> Result<(), Fail> {
+    let ring = Cyclo::new(17)?;
+    let most = i128::MAX;
+    let room = 1i128 << 126;
+    let rows = [
+        (5, 1, 6, 7, Some((47, 1))),
+        (1, 2, -3, 7, Some((-41, 2))),
+        (room, 1, 1 << 24, -1, Some((room - (1 << 24), 1))),
+        (room + 1, 1, 3, 4, Some((room + 13, 1))),
+        (-5, 1, 1 << 25, 1 << 25, Some(((1 << 50) - 5, 1))),
+        (most - 1, 1, 1, 1, Some((most, 1))),
+        (most, 1, 1, 1, None),
+        (0, 1, most, 2, None),
+    ];
+    for (before, den, x, y, after) in rows {
+        let mut nums = [0i128; 16];
+        nums[0] = before;
+        let mut sum = number(&ring, &nums, den)?;
+        // z^8 times z^9 is 1.
+        let (mut left, mut right) = ([0i128; 16], [0i128; 16]);
+        left[8] = x;
+        right[9] = y;
+        let (left, right) = (number(&ring, &left, 1)?, number(&ring, &right, 1)?);
+        let added = ring.add_product_to(&mut sum, &left, &right);
+        assert_eq!(rt;
+            added.is_ok(),
+            after.is_some(),
+            "{before} and {x} times {y}"
+        );
+        let (first, under) = after.unwrap_or((before, den));
+        assert_eq!(rt; sum.numerator(0), first);
+        assert_eq!(rt; sum.denominator(), under);
+    }
+    Ok(())
+}

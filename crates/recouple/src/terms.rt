@@ -1,7 +1,6 @@
 //! The terms of a new amplitude.
 
 ghost use Rattle.std.specs.Prelude.{◌≡◌, ◌<◌, None, Some, IsTrue, OnErr, OnOk, All, length};
-ghost use Rattle.ring_laws.specs.Stated.{add_product_at};
 ghost use Rattle.symbol_table.specs.Category.{symbols};
 ghost use Rattle.amp_store.specs.Amplitudes.{amplitude_of};
 ghost use Rattle.recouple.specs.Rotations.{IsKey, IsRotation, before as spec_before};
@@ -14,25 +13,6 @@ use crate::sources::{Source, place_near};
 use amp_store::{Amps, Key};
 use ring_laws::{Overflow, StarRing};
 use symbol_table::Category;
-
-/// Adds the product of two to a sum, in place.
-fn add_product_to<R: StarRing>(
-    ring: &R,
-    sum: &mut R::Elem,
-    x: &R::Elem,
-    y: &R::Elem,
-) -> Result<(), Overflow>
-    requires sum { IsTrue ((R.ring ring.now).member sum.old) }
-    requires left { IsTrue ((R.ring ring.now).member x.now) }
-    requires right { IsTrue ((R.ring ring.now).member y.now) }
-    ensures ok { OnOk result (add_product_at (R.ring ring.now) sum.old x.now y.now ≡ Some sum.new) }
-    ensures err { OnErr result (add_product_at (R.ring ring.now) sum.old x.now y.now ≡ None) }
-    ensures member { OnOk result (IsTrue ((R.ring ring.now).member sum.new)) }
-{
-    let product = ring.mul(x, y)?;
-    *sum = ring.add(sum, &product)?;
-    Ok(())
-}
 
 /// Adds the term of the label t in the amplitude of a new key to a sum, where the old amplitude isn't zero and the
 /// factor is admissible. The old amplitude, whose key is given too, is looked for at a place first.
@@ -68,7 +48,7 @@ fn raise_term<R: StarRing>(
         return Ok(());
     };
     let factor = factor_at(category, rotation, &at);
-    add_product_to(category.ring(), sum, &factor, old)
+    category.ring().add_product_to(sum, &factor, old)
 }
 
 /// Makes a zero the amplitude of a new key, whose sources stand first.
