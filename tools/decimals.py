@@ -11,10 +11,11 @@ probability, which is its weight over the total.
 
 z stands for exp(2 pi i / N); with `--power K` for exp(2 pi i K / N).
 `--digits D` sets the decimals, 6 where nothing is said, 60 at most. All is
-computed with 160 digits before it is rounded.
+computed with 420 digits before it is rounded: a number with 127 bits in each of
+its sixteen parts may be as small as 1e-280 without being zero.
 
 A refused text is told by its line and cause on standard error, with exit status
-1; 2 is a faulty command line, 3 a file that can't be read.
+1; a report that is a refusal or a limit is told as it is. 2 is a faulty command line, 3 a file that can't be read.
 """
 
 import math
@@ -22,8 +23,11 @@ import re
 import sys
 from decimal import Decimal, getcontext
 
-getcontext().prec = 160
+DIGITS = 420
+TINY = Decimal(10) ** (2 - DIGITS)
 ROOT_LIMIT = 60
+
+getcontext().prec = DIGITS
 
 
 class Refused(Exception):
@@ -37,7 +41,7 @@ class Usage(Exception):
 def arctan_of_inverse(n):
     """The angle whose tangent is 1/n, by its series."""
     term, total, k = Decimal(1) / n, Decimal(0), 0
-    while abs(term) > Decimal(10) ** -158:
+    while abs(term) > TINY:
         total += term / (2 * k + 1) * (-1) ** k
         term /= n * n
         k += 1
@@ -46,14 +50,12 @@ def arctan_of_inverse(n):
 
 def circle_point(angle):
     """Cosine and sine of an angle from 0 to 7, by their series."""
-    cosine, sine, term = Decimal(0), Decimal(0), Decimal(1)
-    for k in range(200):
-        if k % 2 == 0:
-            cosine += term * (-1) ** (k // 2)
-        else:
-            sine += term * (-1) ** (k // 2)
-        term = term * angle / (k + 1)
-    return cosine, sine
+    sums, term, k = [Decimal(0), Decimal(0)], Decimal(1), 0
+    while k < 8 or abs(term) > TINY:
+        sums[k % 2] += term * (-1) ** (k // 2)
+        k += 1
+        term = term * angle / k
+    return tuple(sums)
 
 
 class Root:
@@ -104,26 +106,23 @@ def number_at(root, line, word):
     return value
 
 
-def is_zero(value):
-    """Whether a number is zero; what isn't has far more than 1e-120."""
-    return all(abs(part) < Decimal(10) ** -120 for part in value)
-
-
 def outcome_line(root, number, words, total, digits):
     """A row of outcomes as decimals."""
     if total is None:
         raise Refused(f"refused report line {number} total")
     weight = number_at(root, number, words[-1])
     line = " ".join(words[:-1] + [shown(weight, digits)])
-    if is_zero(total):
+    if total == (0, 0):
         return line
     return f"{line} probability {shown(quotient(weight, total), digits)}"
 
 
 def told(root, text, digits):
     """The lines of a report, with decimals in place of exact numbers."""
-    total = None
-    for number, line in enumerate(text.splitlines(), 1):
+    total, lines = None, text.splitlines() or [""]
+    if lines[0].startswith(("refused ", "limit ")):
+        raise Refused(lines[0])
+    for number, line in enumerate(lines, 1):
         words = line.split(" ")
         if words[0] == "total" and len(words) == 2 and number == 1:
             total = number_at(root, number, words[1])
