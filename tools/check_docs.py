@@ -7,8 +7,10 @@ A fenced block that begins with ```text quotes a whole file: the last line with
 words above it ends with the file's name, as in `examples/guide_first.txt`:
 A line of a ```sh block that begins with `python3 tools/` is run at the top of
 the repository; what it prints has to be the file behind `>`, or else the file
-that the next ```text block quotes. A picture that the guide shows has to be
-there.
+that the next ```text block quotes. A command of `anyon` on files of `examples/`
+has to be one of the runs that the gate makes (examples/*runs.txt), and where a
+report is quoted next, the run of that report. A picture that the guide shows
+has to be there.
 
 Prints each place that differs, with exit status 1 where there is one. With
 `--fill` it writes what the commands print into their files and the files into
@@ -120,6 +122,30 @@ def command_faults(lines, blocks):
             yield at, f"doesn't print {name}"
 
 
+def listed_runs():
+    """The runs of the examples: the words of each, and its report's file."""
+    runs = {}
+    for path in sorted((TOP / "examples").glob("*runs.txt")):
+        for line in path.read_text().splitlines():
+            words = line.split()
+            if words and not words[0].startswith("#"):
+                runs[" ".join(words[2:])] = "examples/" + words[0]
+    return runs
+
+
+def run_faults(lines):
+    """What is wrong with the commands of `anyon` that name examples."""
+    runs, report = listed_runs(), ""
+    for at, line in enumerate(lines):
+        for command in re.findall(r"(?:^|`)anyon ([^`|]* examples/[^`|]*)", line):
+            report = runs.get(command.strip().replace("examples/", ""), "")
+            if not report:
+                yield at, "a command that is no run of the examples"
+        quoted = NAMED.search(line)
+        if quoted and quoted[1].endswith("_report.txt") and quoted[1] != report:
+            yield at, f"the command before it is not that of {quoted[1]}"
+
+
 def picture_faults(lines):
     """Which pictures that are shown aren't there."""
     for at, line in enumerate(lines):
@@ -139,7 +165,7 @@ def main(words):
         lines = GUIDE.read_text().splitlines()
     blocks = blocks_of(lines)
     faults = [*text_faults(lines, blocks), *command_faults(lines, blocks),
-              *picture_faults(lines)]
+              *run_faults(lines), *picture_faults(lines)]
     for at, fault in sorted(faults):
         print(f"docs/GUIDE.md line {at + 1}: {fault}")
     return 1 if faults else 0
