@@ -21,7 +21,7 @@ FIXED = re.compile(r"^ *infix")
 HEAD = """# Definitions
 
 Each public definition of the crates' `specs/`, in one line: its name, what kind it is, and the sentence that stands over it
-there, or, where there is none, the statement or the type that it has. The crates stand from the lowest up, each file of a crate after the files that it reads.
+there, or, where there is none, the statement or the type that it has. The crates stand in the order of `crates.txt`, and files in the order of their crate's list.
 `tools/definitions.py > docs/DEFINITIONS.md` writes this page anew.
 
 A *definition* says what a name stands for, a *record* is a list of named parts or premises, a *type* a list of cases, a
