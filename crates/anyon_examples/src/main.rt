@@ -7,7 +7,7 @@
 //! where every line was `ok`.
 #![tactic(auto)]
 
-ghost use Rattle.std.specs.Prelude.{◌≡◌, ◌×◌, true};
+ghost use Rattle.std.specs.Prelude.{◌≡◌, true};
 
 use anyon_app::anyon;
 use io_ports::{FileShelf, MemSink, load};
