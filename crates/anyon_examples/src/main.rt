@@ -7,7 +7,7 @@
 //! where every line was `ok`.
 #![tactic(auto)]
 
-ghost use Rattle.std.specs.Prelude.{◌≡◌, true};
+ghost use Rattle.std.specs.Prelude.{◌≡◌, ◌↔◌, true};
 
 use anyon_app::anyon;
 use io_ports::{FileShelf, MemSink, load};
@@ -24,13 +24,6 @@ struct Run {
     report: String,
     status: u8,
     words: Vec<String>,
-}
-
-// What a run wrote, and the code of its status.
-#[derive(Drop)]
-struct Answer {
-    sink: MemSink,
-    code: u8,
 }
 
 // The run that a line lists; none where the line has no report, no status from 0 to 255 or no words behind them.
@@ -58,7 +51,7 @@ fn run_of(alloc: Global, line: &str) -> Result<Option<Run>, AllocError> {
 
 // Whether these bytes and this code are those that are wanted.
 fn agrees(written: &[u8], code: u8, wanted: &[u8], status: u8) -> bool
-    ensures { result ≡ true → (written.now ≡ wanted.now) × (code ≡ status) }
+    ensures { (result ≡ true) ↔ ((written.now ≡ wanted.now) × (code ≡ status)) }
 {
     code == status && written == wanted
 }
@@ -109,3 +102,6 @@ fn main(rt: HostRuntime) -> io::Result<ExitCode> {
         ExitCode::FAILURE
     })
 }
+
+#[cfg(test)]
+mod tests;
