@@ -214,19 +214,21 @@ class Fibonacci:
 
 
 UNITARY = "Gauge: unitary F-symbols, so all vertex weights are 1."
-COCYCLE = "Gauge: F(a,b,c) = (-1)^(k a [b + c is n or more]) and R(a,b) = exp(pi i k a b / n), a and b from 0 to n - 1; weights 1."
-GOLDEN = [
-    "Gauge: F(t,t,t,t;t,1) = 1 and w(t,t,1) = 1/phi in place of square roots of phi in F.",
-]
+COCYCLE = ("Gauge: F(a,b,c) = (-1)^(k a [b + c is n or more]) and R(a,b) = exp(pi i k a b / n), a and b from 0 to n - 1; "
+           "weights 1.")
+GOLDEN = "Gauge: F(t,t,t,t;t,1) = 1 and w(t,t,1) = 1/phi in place of square roots of phi in F."
 KITAEV = "Source: Kitaev, Anyons in an exactly solved model and beyond (2006)"
 SIEHLER = "Source: Tambara and Yamagami (1998) for F; Siehler, Braided near-group categories (2000), for R."
 
 
 def fibonacci_files():
     """Fibonacci, over its own root and over one that it shares with the semion, and its image."""
-    source = "Source: Wang, Topological Quantum Computation (CBMS 112); Preskill, Lecture notes on quantum computation, chapter 9."
-    yield "fibonacci", Fibonacci(), ["The Fibonacci category: t times t is 1 and t; z is the first fifth root of unity.", source, *GOLDEN]
-    yield "fibonacci_root20", Fibonacci(20), ["The Fibonacci category over the root 20, so that the semion's product with it can be made.", source, *GOLDEN]
+    source = ("Source: Wang, Topological Quantum Computation (CBMS 112); "
+              "Preskill, Lecture notes on quantum computation, chapter 9.")
+    yield "fibonacci", Fibonacci(), [
+        "The Fibonacci category: t times t is 1 and t; z is the first fifth root of unity.", source, GOLDEN]
+    yield "fibonacci_root20", Fibonacci(20), [
+        "The Fibonacci category over the root 20, so that the semion's product with it can be made.", source, GOLDEN]
     yield "yang_lee", Fibonacci(5, 2), [
         "The Yang-Lee category: the image of Fibonacci in which z^2 is put for z. Its weights aren't positive.", source,
         "Gauge: that of fibonacci.txt, with 1 - phi for phi."]
@@ -236,7 +238,8 @@ def pointed_files():
     """Categories whose labels form a group."""
     source = f"{KITAEV}, Appendix E."
     semion = "the form exp(pi i a^2 / 2); R(s,s,1) = i."
-    yield "semion", cyclic(2, 1, names=["1", "s"]), [f"The semion: the group of two elements with {semion}", source, UNITARY]
+    yield "semion", cyclic(2, 1, names=["1", "s"]), [
+        f"The semion: the group of two elements with {semion}", source, UNITARY]
     yield "semion_root20", cyclic(2, 1, 20, ["1", "s"]), [f"The semion over the root 20: {semion}", source, UNITARY]
     yield "semion_mirror", cyclic(2, 3, names=["1", "s"]), [
         "The mirror of the semion: the form exp(-pi i a^2 / 2); R(s,s,1) = -i.", source, UNITARY]
@@ -264,7 +267,8 @@ def ising_files():
     """The eight categories of Ising's kind."""
     for nu in range(1, 16, 2):
         yield f"ising_{nu}", Ising(nu), [
-            f"The category of Ising's kind with nu = {nu}: s times s is 1 and p, and the twist of s is z^{nu}, z the first 16th root of unity.",
+            f"The category of Ising's kind with nu = {nu}: s times s is 1 and p, and the twist of s is z^{nu}, z the first "
+            "16th root of unity.",
             f"{KITAEV}, section 10 and Appendix E.", UNITARY]
 
 
@@ -285,19 +289,23 @@ def tambara_files():
     for name, chi, spin, words in (("crossed", cross, crossed_spin, "g1 h2 + g2 h1"),
                                    ("straight", straight, straight_spin, "g1 h1 + g2 h2")):
         for word, sign, omega in (("plus", 1, 0), ("minus", -1, 1)):
-            yield f"tambara_{name}_{word}", Tambara(4, ["1", "a", "b", "c", "m"], PAIRS, sum_of_pairs, chi, sign, two, spin, omega), [
-                f"The Tambara-Yamagami category of the group of four elements without one of order four, tau = {'-' if sign < 0 else ''}1/2,",
-                f"with the pairing (-1)^({words}): m times m is 1, a, b and c. The group of order four has no braiding.", SIEHLER, UNITARY]
+            names = ["1", "a", "b", "c", "m"]
+            tau = "1/2" if sign > 0 else "-1/2"
+            yield f"tambara_{name}_{word}", Tambara(4, names, PAIRS, sum_of_pairs, chi, sign, two, spin, omega), [
+                f"The Tambara-Yamagami category of the group of four elements without one of order four, tau = {tau},",
+                f"with the pairing (-1)^({words}): m times m is 1, a, b and c.", SIEHLER, UNITARY]
 
 
 def su2_files():
     """SU(2) at the levels 1 to 6, and the even parts."""
     source = "Source: Kauffman and Lins, Temperley-Lieb recoupling theory (1994), at A = z."
-    gauge = "Gauge: no square roots; each vertex is scaled so that its weight keeps no square of a quantum integer (su2.py)."
+    gauge = ("Gauge: no square roots; each vertex is scaled so that its weight keeps no square of a quantum integer "
+             "(su2.py).")
     for level in range(1, 7):
         labels = "the labels are twice the spins"
         yield f"su2_{level}", Su2(level), [f"SU(2) at level {level}: {labels}.", source, gauge]
-        yield f"su2_{level}_even", Su2(level, 2), [f"The even part of SU(2) at level {level}, the integer spins: {labels}.", source, gauge]
+        yield f"su2_{level}_even", Su2(level, 2), [
+            f"The even part of SU(2) at level {level}, the integer spins: {labels}.", source, gauge]
 
 
 def files():
@@ -317,7 +325,8 @@ def write_all(folder):
         with open(os.path.join(folder, "categories", f"{name}.txt"), "w", encoding="ascii") as out:
             out.write(text(comments, category_lines(category)))
         first = f"Twists and quantum dimensions of categories/{name}.txt, by which `upgrade` brings it to version 2."
-        rule = "Source: the twist of a is the sum over c of d_c R(a,a,c), over d_a (Kitaev 2006, Appendix E). No gauge changes them."
+        rule = ("Source: the twist of a is the sum over c of d_c R(a,a,c), over d_a (Kitaev 2006, Appendix E). No gauge "
+                "changes them.")
         with open(os.path.join(folder, "marks", f"{name}.txt"), "w", encoding="ascii") as out:
             out.write(text([first, rule], marks_lines(category)))
 

@@ -172,7 +172,8 @@ class Su2:
 def main(words):
     """Writes the text that the words name."""
     level, flags = words[:1], words[1:]
-    if level not in [[str(n)] for n in range(1, LARGEST_LEVEL + 1)] or flags not in ([], ["even"], ["marks"], ["even", "marks"]):
+    levels = [[str(n)] for n in range(1, LARGEST_LEVEL + 1)]
+    if level not in levels or flags not in ([], ["even"], ["marks"], ["even", "marks"]):
         sys.exit("usage: su2.py LEVEL [even] [marks], with LEVEL from 1 to 10")
     root = 4 * (int(level[0]) + 2)
     if len(cyclotomic(root)) - 1 > LARGEST_DEGREE:
