@@ -10,7 +10,7 @@ trap 'rm -rf "$folder"' EXIT
 cd "$folder"
 g++ -O2 -o plain "$here/plain_check.cpp"
 for level in 6 10; do
-  python3 "$here/su2_category.py" "$level" > category.txt
+  python3 "$here/../examples/su2.py" "$level" > category.txt
   echo "SU(2) at level $level:"
   for checker in "$program check" './plain'; do
     /usr/bin/time -f "  ${checker##*/}: %U s of the processor, %M KB" taskset -c 0 $checker category.txt > answer.txt 2> times.txt

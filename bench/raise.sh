@@ -42,7 +42,7 @@ for row in '13 150' '17 40' '21 5'; do
     "$((took * 1000000 / terms)) ns for one of each; alone $((product + sum)) ns"
 done
 
-python3 "$here/su2_category.py" 4 > category.txt
+python3 "$here/../examples/su2.py" 4 > category.txt
 python3 "$here/raise_program.py" 22 there 1 2,1 > program.txt
 /usr/bin/time -f '%M KB' "$program" trees category.txt program.txt > answer.txt 2> memory.txt
 echo "$(grep -c '^amp' answer.txt) amplitudes: $(tail -n 1 memory.txt)"

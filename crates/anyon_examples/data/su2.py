@@ -1,7 +1,10 @@
 #!/usr/bin/env python3
 """Writes the category text of SU(2) at a level from 1 to 10 to standard output.
 
-Usage: bench/su2_category.py LEVEL
+Usage: su2.py LEVEL [even] [marks]
+
+With `even` it is that of the even part, the integer spins alone; with `marks` the marks text of its twists and
+quantum dimensions, by which `upgrade` brings it to version 2.
 
 The labels 0 to LEVEL are twice the spins.  The root is 4 (LEVEL + 2), which no text may have at
 level 9.  With z the first root of unity of that order, the quantum integer [m] is
@@ -15,93 +18,17 @@ vertex has the weight
 
 up to factors g(a) g(b) / g(c), which no law sees.  Each vertex is then scaled by a product of
 quantum integers so that its weight keeps no square of one.  This needs no square root, leaves
-unit symbols at 1 and R as it is, and keeps the coefficients small.
+unit symbols at 1 and R as it is, and keeps the coefficients small.  The quantum dimension of a is [a+1].
 """
 
-import math
 import sys
-from fractions import Fraction
 from itertools import product
+
+sys.dont_write_bytecode = True
+from exact import Field, category_lines, cyclotomic, marks_lines, triples
 
 LARGEST_LEVEL = 10
 LARGEST_DEGREE = 16
-
-
-def quotient(num, den):
-    """The exact quotient of two polynomials, low coefficient first, the divisor monic."""
-    rest, out = list(num), [0] * (len(num) - len(den) + 1)
-    for i in range(len(out) - 1, -1, -1):
-        out[i] = rest[i + len(den) - 1]
-        for j, c in enumerate(den):
-            rest[i + j] -= out[i] * c
-    return out
-
-
-def cyclotomic(n):
-    """The n-th cyclotomic polynomial."""
-    poly = [-1] + [0] * (n - 1) + [1]
-    for d in range(1, n):
-        if n % d == 0:
-            poly = quotient(poly, cyclotomic(d))
-    return poly
-
-
-class Field:
-    """The cyclotomic field of one root.  A number is (parts, denominator) in lowest terms."""
-
-    def __init__(self, root):
-        poly = cyclotomic(root)
-        self.root, self.phi = root, len(poly) - 1
-        row, self.powers = [1] + [0] * (self.phi - 1), []
-        for _ in range(root):
-            self.powers.append(tuple(row))
-            top = row[-1]
-            row = [(row[j - 1] if j else 0) - top * poly[j] for j in range(self.phi)]
-        self.zero = ((0,) * self.phi, 1)
-        self.one = self.power(0)
-
-    def power(self, k):
-        """z^k."""
-        return self.powers[k % self.root], 1
-
-    @staticmethod
-    def reduced(parts, den):
-        """The number of a fraction with a positive denominator."""
-        g = math.gcd(den, *parts)
-        return tuple(p // g for p in parts), den // g
-
-    def add(self, x, y):
-        """The sum."""
-        parts = [p * y[1] + q * x[1] for p, q in zip(x[0], y[0])]
-        return self.reduced(parts, x[1] * y[1])
-
-    def neg(self, x):
-        """The negative."""
-        return tuple(-p for p in x[0]), x[1]
-
-    def mul(self, x, y):
-        """The product."""
-        parts = [0] * self.phi
-        for (a, p), (b, q) in product(enumerate(x[0]), enumerate(y[0])):
-            if p and q:
-                for j, c in enumerate(self.powers[(a + b) % self.root]):
-                    parts[j] += p * q * c
-        return self.reduced(parts, x[1] * y[1])
-
-    def inverse(self, x):
-        """The inverse of a number that isn't zero, from the linear equations x y = 1."""
-        columns = [self.mul(x, self.power(j)) for j in range(self.phi)]
-        rows = [[Fraction(parts[i], den) for parts, den in columns] + [Fraction(int(i == 0))]
-                for i in range(self.phi)]
-        for c in range(self.phi):
-            pivot = next(r for r in range(c, self.phi) if rows[r][c])
-            rows[c], rows[pivot] = rows[pivot], rows[c]
-            rows[c] = [v / rows[c][c] for v in rows[c]]
-            for r in range(self.phi):
-                if r != c and rows[r][c]:
-                    rows[r] = [v - rows[r][c] * w for v, w in zip(rows[r], rows[c])]
-        den = math.lcm(*(row[-1].denominator for row in rows))
-        return self.reduced([int(row[-1] * den) for row in rows], den)
 
 
 class Monomials:
@@ -153,30 +80,19 @@ class Monomials:
 
 
 class Su2:
-    """The symbols of SU(2) at a level."""
+    """The symbols of SU(2) at a level, or of its even part where the step of the labels is 2."""
 
-    def __init__(self, level):
+    def __init__(self, level, step=1):
         self.level = level
-        self.labels = range(level + 1)
+        self.labels = range(0, level + 1, step)
+        self.names = [str(a) for a in self.labels]
         self.monomials = Monomials(level)
         self.field = self.monomials.field
-        self.scales = {at: [-(e // 2) for e in self.plain_weight(*at)] for at in self.triples()}
+        self.scales = {at: [-(e // 2) for e in self.plain_weight(*at)] for at in triples(self)}
 
     def allows(self, a, b, c):
         """Whether c occurs in a times b."""
         return (a + b + c) % 2 == 0 and abs(a - b) <= c <= min(a + b, 2 * self.level - a - b)
-
-    def triples(self):
-        """Every admissible a b c in label order."""
-        return [at for at in product(self.labels, repeat=3) if self.allows(*at)]
-
-    def f_indices(self):
-        """Every admissible a b c d e f in label order."""
-        for a, b, c, d, e in product(self.labels, repeat=5):
-            if self.allows(a, b, e) and self.allows(e, c, d):
-                for f in self.labels:
-                    if self.allows(b, c, f) and self.allows(a, f, d):
-                        yield a, b, c, d, e, f
 
     def plain_weight(self, a, b, c):
         """The exponents of the weight before the vertex is scaled."""
@@ -234,53 +150,37 @@ class Su2:
             total = self.field.add(total, value if (-1) ** t == sign else self.field.neg(value))
         return total
 
-    def r(self, a, b, c):
+    def r(self, at):
         """R at an admissible index; -1 is the power of z at half the root."""
+        a, b, c = at
         power = (a * (a + 2) + b * (b + 2) - c * (c + 2)) // 2
         return self.field.power(power + (a + b - c) // 2 * (self.field.root // 2))
 
-    def w(self, a, b, c):
+    def w(self, at):
         """The vertex weight."""
-        return self.monomials.value(self.weight(a, b, c))
+        return self.monomials.value(self.weight(*at))
 
-    def v(self, a, b, c):
+    def v(self, at):
         """The inverse of the vertex weight."""
-        return self.monomials.value([-e for e in self.weight(a, b, c)])
+        return self.monomials.value([-e for e in self.weight(*at)])
 
-
-def spelled(x):
-    """The canonical number word."""
-    parts = list(x[0])
-    while len(parts) > 1 and parts[-1] == 0:
-        parts.pop()
-    word = ",".join(map(str, parts))
-    return word if x[1] == 1 else f"{word}/{x[1]}"
-
-
-def lines(su2):
-    """The lines of the canonical category text."""
-    yield "category 1"
-    yield f"root {su2.field.root}"
-    yield "labels " + " ".join(map(str, su2.labels))
-    for at in su2.triples():
-        if at[0] and at[1]:
-            yield "fuse " + " ".join(map(str, at))
-    symbols = [("f", at, su2.f(at)) for at in su2.f_indices()]
-    for name, symbol in (("r", su2.r), ("w", su2.w), ("v", su2.v)):
-        symbols += [(name, at, symbol(*at)) for at in su2.triples()]
-    for name, at, value in symbols:
-        if value != su2.field.one:
-            yield f"{name} {' '.join(map(str, at))} {spelled(value)}"
+    def loop(self, a):
+        """The quantum dimension."""
+        return self.monomials.integer(a + 1)
 
 
 def main(words):
-    """Writes the text of the level that the words name."""
-    if len(words) != 1 or words[0] not in map(str, range(1, LARGEST_LEVEL + 1)):
-        sys.exit("usage: su2_category.py LEVEL, with LEVEL from 1 to 10")
-    level = int(words[0])
-    if len(cyclotomic(4 * (level + 2))) - 1 > LARGEST_DEGREE:
-        sys.exit(f"level {level} needs the root {4 * (level + 2)}, which no text may have")
-    sys.stdout.writelines(line + "\n" for line in lines(Su2(level)))
+    """Writes the text that the words name."""
+    level, flags = words[:1], words[1:]
+    levels = [[str(n)] for n in range(1, LARGEST_LEVEL + 1)]
+    if level not in levels or flags not in ([], ["even"], ["marks"], ["even", "marks"]):
+        sys.exit("usage: su2.py LEVEL [even] [marks], with LEVEL from 1 to 10")
+    root = 4 * (int(level[0]) + 2)
+    if len(cyclotomic(root)) - 1 > LARGEST_DEGREE:
+        sys.exit(f"level {level[0]} needs the root {root}, which no text may have")
+    su2 = Su2(int(level[0]), 2 if "even" in flags else 1)
+    lines = marks_lines(su2) if "marks" in flags else category_lines(su2)
+    sys.stdout.writelines(line + "\n" for line in lines)
 
 
 if __name__ == "__main__":
