@@ -1,0 +1,5 @@
+pub mod AnswerLemmas
+pub mod PlaceLemmas
+pub mod SideLemmas
+pub mod TableLemmas
+pub mod WalkLemmas
