@@ -1,6 +1,6 @@
 -- What two sides tell.
-use Rattle.std.proofs.Common.{◌≡◌, ℕ, Bool, true, false, List, length, Option, Some, None, Result, Ok, Err, refl, sym, ◌∙◌}
-use Rattle.std.specs.Prelude.{if◌then◌else◌, IsTrue, ◌↔◌}
+use Rattle.std.proofs.Common.{◌≡◌, ℕ, Bool, true, false, List, Option, Some, Ok, Err, refl, sym}
+use Rattle.std.specs.Prelude.{IsTrue, ◌↔◌}
 use Rattle.ring_laws.specs.Ring.{Ring, Held, RingLaws}
 use Rattle.symbol_table.specs.Symbols.{Symbols}
 use Rattle.law_events.specs.Sides.{judged, verdict}

@@ -1,16 +1,16 @@
 -- Numbers of symbols where values are added.
-use Rattle.std.proofs.Common.{◌≡◌, ℕ, ◌+◌, ◌<◌, ◌≤◌, List, [], ◌∷◌, ◌++◌, length, slice_index, slice_index_or, refl, sym, ◌∙◌, ap, arith}
+use Rattle.std.proofs.Common.{◌≡◌, ℕ, ◌<◌, List, [], ◌∷◌, ◌++◌, length, slice_index, ◌∙◌, ap, arith}
 use Rattle.std.proofs.Common.{length-append}
-use Rattle.std.proofs.lemmas.List.{get_or_append_left, get_or_default}
+use Rattle.std.proofs.lemmas.List.{get_or_append_left}
 use Rattle.std.proofs.Math.Seq.{get_or-append_seam}
 use borrow.Author.Count.{below_more}
 use Rattle.ring_laws.specs.Ring.{Ring}
 use Rattle.symbol_table.specs.Symbols.{Symbols}
-use Rattle.symbol_table.specs.Index.{AreSixLabels, AreThreeLabels, f_index, v_index}
+use Rattle.symbol_table.specs.Index.{AreSixLabels, AreThreeLabels}
 use Rattle.symbol_table.specs.Draft.{DraftValue}
 use Rattle.symbol_table.specs.declared.index.FIndex.{FIndex}
 use Rattle.symbol_table.specs.declared.index.VIndex.{VIndex}
-use Rattle.kept_values.specs.Kept.{Grows, KeptValues, value_of}
+use Rattle.kept_values.specs.Kept.{Grows, KeptValues}
 use Rattle.shape_check.specs.declared.shape.Exchange.{Exchange}
 use Rattle.shape_check.specs.declared.shape.Exchange.TheVariants.{Positive, Negative}
 use Rattle.shape_check.specs.Place.{six, six_at, six_place, three, three_at, three_place}

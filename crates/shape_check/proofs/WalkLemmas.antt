@@ -1,20 +1,18 @@
 -- A walk over the indices of a law.
-use Rattle.std.proofs.Common.{◌≡◌, ◌≢◌, ℕ, zero, suc, ◌+◌, ◌-◌, ◌<◌, ◌≤◌, Bool, true, false, List, [], ◌∷◌, ◌++◌, length, drop, take, get_or, length-append, Option, None, Some, Result, Ok, Err, refl, sym, ap, ◌∙◌, arith, append_assoc, append-nil, true≢false}
-use Rattle.std.specs.Prelude.{◌&&◌, All, if◌then◌else◌}
+use Rattle.std.proofs.Common.{◌≡◌, ◌≢◌, ℕ, zero, suc, ◌+◌, ◌-◌, ◌<◌, ◌≤◌, Bool, true, false, List, [], ◌∷◌, ◌++◌, length, drop, take, get_or, length-append, Option, None, refl, sym, ap, ◌∙◌, arith, append_assoc, append-nil, true≢false}
+use Rattle.std.specs.Prelude.{◌&&◌, All}
 use Rattle.std.specs.Option.{option_or}
 use Rattle.std.proofs.lemmas.List.{at_drop_more, at_drop_all, get_or_append_left}
 use Rattle.std.proofs.Math.Seq.{take-append_seam}
 use Rattle.std.proofs.lemmas.List.Elements.{All-append, All-cons, All-nil}
 use Rattle.std.proofs.lemmas.Bool.Decides.{nat_tests}
 use Rattle.fusion_rules.specs.First.{first_from, first_below}
-use Rattle.symbol_table.specs.Symbols.{Symbols}
 use Rattle.symbol_table.specs.Laws.{form_of, fuse_all, fuses_at}
 use Rattle.symbol_table.specs.declared.law.Event.{Event}
 use Rattle.symbol_table.specs.declared.law.Law.{Law}
 use Rattle.symbol_table.specs.declared.law.Kind.{Kind}
 use Rattle.symbol_table.specs.declared.law.Triple.{Triple}
 use Rattle.law_events.specs.First.{all_within, event_at, event_of, first_over, within}
-use Rattle.law_events.specs.Sides.{first_of, first_in}
 use Rattle.law_events.proofs.Left.{first_more, law_within, next, none_over}
 use Rattle.shape_check.specs.declared.ShapeFault.{ShapeFault}
 use Rattle.shape_check.specs.declared.ShapeFault.TheVariants as fault

@@ -1,4 +1,4 @@
-use Rattle.std.proofs.Common.{◌≡◌, ◌∙◌}
+use Rattle.std.proofs.Common.{◌∙◌}
 use Rattle.std.proofs.lemmas.Result.{err_from_is_err_and}
 use Rattle.symbol_table.specs.Category.{draft_symbols}
 use Rattle.shape_check.specs.Shapes.{left_at, right_at}

@@ -1,8 +1,8 @@
-use Rattle.std.proofs.Common.{◌≡◌, ℕ, ◌-◌, ◌<◌, length, ◌∙◌, sym, ap, arith}
+use Rattle.std.proofs.Common.{◌≡◌, ◌∙◌, sym, ap, arith}
 use Rattle.fusion_rules.specs.Fusion.{Fusion}
 use Rattle.std.proofs.lemmas.Result.{err_from_is_err_and}
 use Rattle.symbol_table.specs.Category.{draft_symbols}
-use Rattle.kept_values.specs.Kept.{Told, value_of}
+use Rattle.kept_values.specs.Kept.{value_of}
 use Rattle.kept_values.proofs.ToldLemmas.{one_step, no_step, grows_on}
 use Rattle.shape_check.specs.Shapes.{right_at, step_at}
 use Rattle.shape_check.proofs.sides.right.Goals as goal

@@ -2,7 +2,6 @@ use Rattle.std.proofs.Common.{◌≡◌, ℕ, ◌+◌, ◌-◌, ◌<◌, ◌++�
 use Rattle.std.proofs.lemmas.Result.{err_from_is_err_and}
 use Rattle.fusion_rules.specs.Fusion.{Fusion, fuses}
 use Rattle.symbol_table.specs.Category.{draft_symbols}
-use Rattle.symbol_table.specs.Laws.{form_of}
 use Rattle.symbol_table.specs.declared.law.Event.{Event}
 use Rattle.law_events.specs.First.{event_at, first_over}
 use Rattle.law_events.specs.Sides.{verdict}
