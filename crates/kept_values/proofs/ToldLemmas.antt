@@ -1,5 +1,5 @@
 -- Numbered answers one after another.
-use Rattle.std.proofs.Common.{◌≡◌, ℕ, ◌+◌, ◌-◌, ◌<◌, List, length, Option, None, Result, Ok, Err, refl, sym, ◌∙◌, arith}
+use Rattle.std.proofs.Common.{◌≡◌, ℕ, ◌+◌, ◌-◌, ◌<◌, List, Option, Result, Ok, Err, refl, sym, ◌∙◌, arith}
 use Rattle.ring_laws.specs.Ring.{Ring}
 use Rattle.ring_laws.specs.Stated.{◌>>=◌, steps}
 use Rattle.ring_laws.proofs.StatedLemmas.{steps_one, steps_none}

@@ -11,14 +11,15 @@ three_place n a b c = (a * n + b) * n + c
 abbrev pub six_place : ℕ → ℕ → ℕ → ℕ → ℕ → ℕ → ℕ → ℕ
 six_place n a b c d e f = ((((a * n + b) * n + c) * n + d) * n + e) * n + f
 
--- how many places there are
+-- how many places three labels have
 abbrev pub three : ℕ → ℕ
 three n = n * n * n
 
+-- how many places six labels have
 abbrev pub six : ℕ → ℕ
 six n = n * n * n * n * n * n
 
--- the labels at a place
+-- the three labels at a place
 abbrev pub three_at : ℕ → ℕ → VIndex
 three_at n k = record {
   a = k / n / n % n;
@@ -26,6 +27,7 @@ three_at n k = record {
   c = k % n;
 }
 
+-- the six labels at a place
 abbrev pub six_at : ℕ → ℕ → FIndex
 six_at n k = record {
   a = k / n / n / n / n / n % n;
