@@ -63,6 +63,7 @@ fn agreed(plain: Result<(), Event>, kept: Result<(), ShapeFault>) -> Result<Opti
                 Err(Fail::from("two events"))
             }
         }
+        (_, Err(ShapeFault::Memory)) => Err(Fail::from("no memory")),
         _ => Err(Fail::from("two answers")),
     }
 }
