@@ -6,7 +6,8 @@ Usage: tools/calls.py [--bare] > docs/CALLS.md
 The crates come in the order of `crates.txt`, the calls of a crate in the order of its root file's modules. A call is a
 `pub fn` that the crate shows, a `pub fn` of a type that it shows, or a method of such a trait; tests are none. What a row
 says is read from the text of the contract by the rules below: `WHOLE` names the definitions that tell every answer of a
-call, `KEPT` those that tell what is lent to it. With `--bare` it lists only the rows that say "no clause".
+call, `KEPT` those that tell what is lent to it. With `--bare` it lists only the rows that say "no clause". It stops where a source names a bound under
+which a call need not return.
 """
 import pathlib
 import re
@@ -58,9 +59,9 @@ That a call returns doesn't say: that the stack is large enough; that it takes l
 
 - *Answers* are the error type with its variants, as its definition has them, or `None`; where an `Option` holds a fault, `Some` with the variants. A variant that the clause doesn't admit never comes. What variants carry stands at the end.
 - *When* names the clause that tells where each answer comes. "exactly" is one clause for every answer, an `↔`, or a clause each way, up to want of memory; "only" is one way: the answer comes only where the clause says. That of a shelf or a sink is a count of faults that rose in this call or stands at its last value. "free" is want of memory, which may come at any time.
-- *Kept* is for what is lent with `&mut` and changed in place: the clause that says it is as it was behind every answer of the second column. Values are compared as contracts see them: a `Vec` by its items, a type with a `Model` by its view. Where the clause speaks of a part, the part stands in brackets. What is lent with `&` never changes, and what is handed over is gone, also behind a refusal: "-".
+- *Kept* is for what is lent with `&mut` and changed in place: the clause that says it is as it was behind every answer of the second column. Values are compared as contracts see them: a `Vec` by its items, a type with a `Model` by its view. In brackets stands the part of it of which the clause speaks, or what else than "as it was" it says. What is lent with `&` never changes, and what is handed over is gone, also behind a refusal: "-". Of a shelf or a sink that tells no texts or bytes, as `FileShelf` and `OutSink`, `files` and `taken` say nothing.
 - "the clause" is the only one of its call, which has no name. "{none}" marks what no clause says.
-- An `impl` of a trait here has the clauses of the trait; those of `MemShelf`, `SureShelf`, `MemSink`, `FileShelf`, `OutSink`, `Whole` and `Cyclo` may say more. Conversions (`From`) and what is derived can't refuse.
+- An `impl` of a trait here has the clauses of the trait; those of `MemShelf`, `SureShelf`, `MemSink`, `FileShelf`, `OutSink`, `Whole` and `Cyclo` may say more. Conversions (`From`) and what is derived can't refuse. Crates of programs and of tests have no public calls.
 """
 
 
@@ -110,10 +111,13 @@ def crates():
     return found
 
 
-def plain(text):
-    """A source without comments, up to its tests."""
-    text = re.sub(r"(?m)//.*$", "", text)
-    return re.split(r"(?m)^#\[cfg\(test\)\]\nmod \w+ \{$", text)[0]
+def source(path):
+    """A source without comments, up to its tests. It may name no bound under which a call need not return."""
+    text = re.sub(r"(?m)//.*$", "", path.read_text(encoding="utf-8"))
+    text = re.split(r"(?m)^#\[cfg\(test\)\]\nmod \w+ \{$", text)[0]
+    if BOUND.search(text):
+        raise Fault(f"{path.relative_to(ROOT)} names a bound under which a call need not return")
+    return text
 
 
 def modules(text):
@@ -205,13 +209,10 @@ def sources(crate):
     root = folder / "lib.rt"
     if not root.is_file():
         return [], set()
-    text = plain(root.read_text(encoding="utf-8"))
+    text = source(root)
     found = [(text, "", False)]
     for name, public in modules(root.read_text(encoding="utf-8")):
-        within = plain((folder / f"{name}.rt").read_text(encoding="utf-8"))
-        if BOUND.search(within):
-            raise Fault(f"crates/{crate}/src/{name}.rt names a bound under which a call need not return")
-        found.append((within, f"{name}::" if public else "", public))
+        found.append((source(folder / f"{name}.rt"), f"{name}::" if public else "", public))
     return found, shown(text)
 
 
@@ -355,7 +356,7 @@ def variant_when(clause, clauses, kind, variant):
     if re.match(rf"result ≢ {own}$", text):
         return f"never, {named(clause)}"
     if text.startswith("IsAnswer result →") and variant in ANSWERED:
-        back = [f", and back where nothing fails, {named(other)}" for other in clauses if "NoFaults" in other.text]
+        back = [f" (and the other way where no count of faults rises, {named(other)})" for other in clauses if "NoFaults" in other.text]
         return f"only, {named(clause)}{''.join(back)}{told_in(text)}"
     if re.search(rf"(IsErrOf result {own}|result ≡ {own}) →", text) and not re.search(r"\.new ≡|IsBegun|≢ None", text):
         return only_or_exact(clause, clauses)
