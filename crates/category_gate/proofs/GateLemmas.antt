@@ -19,11 +19,15 @@ use Rattle.derive_symbols.specs.Told.{IsFault}
 use Rattle.derive_symbols.specs.declared.WeightFault.{WeightFault}
 use Rattle.derive_symbols.specs.declared.WeightFault.TheVariants as weights
 use Rattle.weight_check.specs.Order.{weight_laws}
-use Rattle.category_gate.specs.Faults.{of_weights}
+use Rattle.shape_check.specs.Answers.{IsFault as IsShapeFault}
+use Rattle.shape_check.specs.Order.{shape_laws}
+use Rattle.shape_check.specs.declared.ShapeFault.{ShapeFault}
+use Rattle.shape_check.specs.declared.ShapeFault.TheVariants as shapes
+use Rattle.category_gate.specs.Faults.{of_shapes, of_weights}
 use Rattle.category_gate.specs.Gate.{IsComplete, IsFirst, IsMemory, IsSound}
 use Rattle.category_gate.specs.declared.GateFault.{GateFault}
 use Rattle.category_gate.specs.declared.GateFault.TheVariants as fault
-use Rattle.category_gate.specs.Order.{behind_laws, shape_laws}
+use Rattle.category_gate.specs.Order.{behind_laws}
 
 -- the two parts are the list
 in_parts : (version : ℕ) → laws_of version ≡ weight_laws ++ behind_laws version
@@ -45,13 +49,19 @@ module _ {E : Type 0} (c : Symbols E) where
   pub behind_told : (o : Option Event) → first_in c weight_laws ≡ None → first_in c behind ≡ o → first_of_all c ≡ o
   behind_told o before told = all_is ∙ behind_none (first_in c weight_laws) (first_in c behind) o before told
 
-  -- an event of the pentagon or of a hexagon, and what is behind where there is none
-  pub shape_event : (event : Event) → first_in c shape_laws ≡ Some event → first_in c behind ≡ Some event
-  shape_event event told = first_append c shape_laws (second_laws c.version) ∙ before_some (first_in c shape_laws) (first_in c (second_laws c.version)) event told
+  -- a fault of the laws behind them, where the rules pass and no weight law has an event
+  pub behind_fault : (found : ShapeFault) → rules_fault c.count c.fuse ≡ None → first_in c weight_laws ≡ None → IsShapeFault found (first_in c behind) → IsFirst c (of_shapes found)
+  behind_fault (shapes.Law event) rules before told = (rules, behind_told (Some event) before told)
+  behind_fault shapes.Memory rules before told = rules
 
-  pub second_told : {A : Type 0} (r : Result A Event) → first_in c shape_laws ≡ None → Answers r (first_in c (second_laws c.version)) → Answers r (first_in c behind)
-  second_told (Ok x) none told = first_append c shape_laws (second_laws c.version) ∙ behind_none (first_in c shape_laws) (first_in c (second_laws c.version)) None none told
-  second_told (Err event) none told = first_append c shape_laws (second_laws c.version) ∙ behind_none (first_in c shape_laws) (first_in c (second_laws c.version)) (Some event) none told
+  -- an event of the pentagon or of a hexagon
+  pub shape_fault : (found : ShapeFault) → IsShapeFault found (first_in c shape_laws) → IsShapeFault found (first_in c behind)
+  shape_fault (shapes.Law event) told = first_append c shape_laws (second_laws c.version) ∙ before_some (first_in c shape_laws) (first_in c (second_laws c.version)) event told
+  shape_fault shapes.Memory told = tt
+
+  -- what the laws of marks tell, where those of shapes have no event
+  pub second_told : (o : Option Event) → first_in c shape_laws ≡ None → first_in c (second_laws c.version) ≡ o → first_in c behind ≡ o
+  second_told o none told = first_append c shape_laws (second_laws c.version) ∙ behind_none (first_in c shape_laws) (first_in c (second_laws c.version)) o none told
 
 module _ {E : Type 0} (ring : Ring E) (held : Held E) (laws : RingLaws ring held) (g : Given E) where
   abbrev c : Symbols E

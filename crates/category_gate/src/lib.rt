@@ -3,7 +3,7 @@
 //!
 //! Glossary:
 //! - *first fault*: the first fault of the rules, else the first event of the laws (`specs/Gate.antt`).
-//! - *laws behind*: the pentagon and the hexagons, and in version 2 the laws of twists and loop values
+//! - *laws behind*: the pentagon and the hexagons (`shape_check`), and in version 2 the laws of twists and loop values
 //!   (`specs/Order.antt`, these in `src/marks.rt`).
 //! - *fits*: no item of the stated evaluation of a law is too large (`law_events`, `specs/Verdicts.antt`).
 //! - *sound, complete*: without a first fault the symbols are lawful, and lawful symbols whose items fit have none
@@ -22,7 +22,8 @@ ghost use Rattle.fusion_rules.specs.First.{Answers};
 ghost use Rattle.fusion_rules.specs.Fusion.{fuses};
 ghost use Rattle.law_events.specs.Sides.{first_in};
 ghost use Rattle.law_events.specs.Verdicts.{EveryItemFits};
-ghost use Rattle.category_gate.specs.Order.{behind_laws, shape_laws};
+ghost use Rattle.shape_check.specs.Answers.{Passes};
+ghost use Rattle.category_gate.specs.Order.{behind_laws};
 ghost use Rattle.category_gate.specs.Gate.{Admits, IsOkOrMemory};
 
 pub mod laws;
@@ -30,7 +31,9 @@ mod marks;
 
 pub use crate::marks::check_marks;
 use fusion_rules::RulesFault;
+use kept_values::Spread;
 use ring_laws::StarRing;
+use shape_check::ShapeFault;
 use std::alloc::Global;
 use symbol_table::{Category, Derived, Draft, Event};
 use weight_check::WeightFault;
@@ -42,7 +45,8 @@ pub enum GateFault {
     Rules(RulesFault),
     /// A law isn't met, or an item of it is too large.
     Law(Event),
-    /// There was no memory for the derived symbols. It comes only where the rules pass.
+    /// There was no memory for the derived symbols, or for the values that the check keeps. It comes only where the rules
+    /// pass.
     Memory,
 }
 
@@ -69,23 +73,17 @@ impl From<WeightFault> for GateFault {
     }
 }
 
-impl From<Event> for GateFault {
-    ghost use Rattle.category_gate.specs.declared.GateFault.TheVariants.{Law};
+impl From<ShapeFault> for GateFault {
+    ghost use Rattle.category_gate.specs.Faults.{of_shapes};
 
-    ghost from_gives = { λ event e. e ≡ Law event };
+    ghost from_gives = { λ fault e. e ≡ of_shapes fault };
 
-    fn from(event: Event) -> GateFault {
-        GateFault::Law(event)
+    fn from(fault: ShapeFault) -> GateFault {
+        match fault {
+            ShapeFault::Law(event) => GateFault::Law(event),
+            ShapeFault::Memory => GateFault::Memory,
+        }
     }
-}
-
-/// Whether the laws of the pentagon and the hexagons hold: else the first event. Takes no memory.
-fn check_shapes<R: StarRing>(draft: &Draft<R>, derived: &Derived<R>) -> Result<(), Event>
-    requires { HoldsSymbols (R.ring draft.now.ring) (given draft.now) derived.now }
-    ensures { Answers result (first_in (symbols R.StarRing draft.now) shape_laws) }
-{
-    pentagon_check::check(draft)?;
-    hexagon_check::check(draft, derived)
 }
 
 /// Whether the laws of twists and loop values hold where the version has them: else the first event. Takes no memory.
@@ -101,24 +99,31 @@ fn check_second<R: StarRing>(draft: &Draft<R>, derived: &Derived<R>) -> Result<(
     }
 }
 
-/// Whether the laws behind those of single symbols and weights hold: else the first event. Takes no memory.
-fn check_behind<R: StarRing>(draft: &Draft<R>, derived: &Derived<R>) -> Result<(), Event>
+/// Whether the laws behind those of single symbols and weights hold: else the first event.
+fn check_behind<R: Spread>(
+    alloc: Global,
+    draft: &Draft<R>,
+    derived: &Derived<R>,
+) -> Result<(), ShapeFault>
     requires pass { RulesPass draft.now.rules.count (fuses draft.now.rules) }
     requires holds { HoldsSymbols (R.ring draft.now.ring) (given draft.now) derived.now }
-    ensures { Answers result (first_in (symbols R.StarRing draft.now) (behind_laws draft.now.version)) }
+    ensures { Passes result (first_in (symbols R.StarRing draft.now) (behind_laws draft.now.version)) }
 {
-    check_shapes(draft, derived)?;
-    check_second(draft, derived)
+    shape_check::check(alloc, draft, derived)?;
+    match check_second(draft, derived) {
+        Ok(()) => Ok(()),
+        Err(event) => Err(ShapeFault::Law(event)),
+    }
 }
 
 /// H and S of a draft that has no first fault.
-fn check<R: StarRing>(alloc: Global, draft: &Draft<R>) -> Result<Derived<R>, GateFault>
+fn check<R: Spread>(alloc: Global, draft: &Draft<R>) -> Result<Derived<R>, GateFault>
     ensures told { Admits (symbols R.StarRing draft.now) result }
     ensures holds { IfOk result (λ derived. HoldsSymbols (R.ring draft.now.ring) (given draft.now) derived) }
 {
     draft.rules().check()?;
     let derived = weight_check::check(alloc, draft)?;
-    check_behind(draft, &derived)?;
+    check_behind(alloc, draft, &derived)?;
     Ok(derived)
 }
 
@@ -126,8 +131,8 @@ fn check<R: StarRing>(alloc: Global, draft: &Draft<R>) -> Result<Derived<R>, Gat
 ///
 /// Answers the first fault of the rules, else the first event of the laws of the draft's version, else the category of
 /// this draft, which is lawful. The draft is given up on a refusal. A lawful draft whose items all fit is admitted, or there was no
-/// memory for its derived symbols.
-pub fn admit<R: StarRing>(alloc: Global, draft: Draft<R>) -> Result<Category<R>, GateFault>
+/// memory for its derived symbols or for the values that the check keeps.
+pub fn admit<R: Spread>(alloc: Global, draft: Draft<R>) -> Result<Category<R>, GateFault>
     ensures told { Admits (symbols R.StarRing draft) result }
     ensures same { IfOk result (λ category. category ≡ draft) }
     ensures lawful { IfOk result (λ category. IsLawful (symbols R.StarRing category)) }

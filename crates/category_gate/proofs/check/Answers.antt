@@ -1,7 +1,7 @@
 use Rattle.std.proofs.Common.{Some, None}
 use Rattle.std.proofs.lemmas.Result.{err_from_is_err_and}
 use Rattle.symbol_table.specs.Category.{draft_symbols}
-use Rattle.category_gate.proofs.GateLemmas.{behind_told, weights_told}
+use Rattle.category_gate.proofs.GateLemmas.{behind_fault, behind_told, weights_told}
 use Rattle.category_gate.proofs.check.Goals as goal
 
 pub returns-in_err-derived-clause-told : goal.returns-in_err-derived-clause-told
@@ -14,7 +14,7 @@ pub returns-in_err-check_behind-clause-told : goal.returns-in_err-check_behind-c
 returns-in_err-check_behind-clause-told g c =
     let p = err_from_is_err_and c.from_residual-in_err-check_behind.result c.from_residual-in_err-check_behind.ensures.1 in
     let s = draft_symbols (g.R.StarRing.ring c.args.draft.now.ring) g.R.StarRing.held c.args.draft.now in
-    rw (p.1, p.2) (rw c.rules.ensures at c.in_ok-check.ensures.first, behind_told s _ c.in_ok-derived.ensures.told.0 c.in_err-check_behind.ensures)
+    rw (p.1, p.2) (behind_fault s _ (rw c.rules.ensures at c.in_ok-check.ensures.first) c.in_ok-derived.ensures.told.0 c.in_err-check_behind.ensures)
 
 pub returns-clause-told : goal.returns-clause-told
 returns-clause-told g c =
