@@ -21,7 +21,7 @@ enum { CLASSES = 40, HEAD = 16 };
 static const size_t ROOM = (size_t)4 << 30;
 static char *arena, *next_free;
 static void *freed[CLASSES];
-static int log_file = -1, is_child;
+static int log_file = -1, is_child, is_noting;
 static unsigned long count;
 
 // The power of two that holds a size and its head.
@@ -70,9 +70,10 @@ static void note(pid_t child, int out, int err) {
   dprintf(log_file, " %s\n", words);
 }
 
-// Whether this allocation is to be refused: yes in the child that is made for it.
+// Whether this allocation is to be refused: yes in the child that is made for it. What the notes take themselves isn't counted.
 static int refused(void) {
-  if (log_file < 0 || is_child) return 0;
+  if (log_file < 0 || is_child || is_noting) return 0;
+  is_noting = 1;
   count++;
   int out = syscall(SYS_memfd_create, "out", 0), err = syscall(SYS_memfd_create, "err", 0);
   pid_t child = fork();
@@ -86,6 +87,7 @@ static int refused(void) {
   note(child, out, err);
   close(out);
   close(err);
+  is_noting = 0;
   return 0;
 }
 
