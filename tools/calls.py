@@ -1,13 +1,14 @@
 #!/usr/bin/env python3
 """Lists each public call of every crate, with the clauses that say when a refusal comes and what it leaves as it was.
 
-Usage: tools/calls.py [--bare] > docs/CALLS.md
+Usage: tools/calls.py [--bare | --plain] > docs/CALLS.md
 
 The crates come in the order of `crates.txt`, the calls of a crate in the order of its root file's modules. A call is a
 `pub fn` that the crate shows, a `pub fn` of a type that it shows, or a method of such a trait; tests are none. What a row
 says is read from the text of the contract by the rules below: `WHOLE` names the definitions that tell every answer of a
-call, `KEPT` those that tell what is lent to it. With `--bare` it lists only the rows that say "no clause". It stops where a source names a bound under
-which a call need not return.
+call, `KEPT` those that tell what is lent to it. With `--bare` it lists only the rows that say "no clause", with `--plain`
+every call in one line: what is lent to it with `&mut`, its answer, and the names of its clauses. It stops where a source
+names a bound under which a call need not return.
 """
 import pathlib
 import re
@@ -49,7 +50,7 @@ ANSWERED = ("Done", "Refused", "Usage", "Limit")
 
 HEAD = """# Calls
 
-Each public call of every crate, and for each that can refuse: the answers other than Ok, the clause that says when each comes, and the clause that says what stays as it was. `tools/calls.py > docs/CALLS.md` writes this page anew from the contracts in `crates/*/src`; `tools/calls.py --bare` lists only the rows with an open place.
+Each public call of every crate, and for each that can refuse: the answers other than Ok, the clause that says when each comes, and the clause that says what stays as it was. `tools/calls.py > docs/CALLS.md` writes this page anew from the contracts in `crates/*/src`; `tools/calls.py --bare` lists only the rows with an open place, and `tools/calls.py --plain` every call with its answer and the names of all its clauses.
 
 **What is proved about return.** The check proves of each function, whether it has clauses or not: called with its `requires` met it has no undefined behavior, it returns, and what its `ensures` say then holds. Each loop and each recursion is proved to end, and a panic, an overflow of a number type, an index out of bounds and a division by zero are proved not to happen. The language leaves out functions that may end the process or wait for another thread, which say so by a bound (`Abort`, `Wait`), are passed code that has one, or join a thread that has one; the last line of a check names those of `main` and of tests behind `main=`. No crate on this page names such a bound outside its tests or starts a thread (the tool looks for it). What a caller passes, a shelf, a sink, a ring, an engine or a closure, is under the same rule: a call that is passed code with such a bound may not return.
 
@@ -57,10 +58,11 @@ That a call returns doesn't say: that the stack is large enough; that it takes l
 
 **How to read the tables.** A call has a row if it answers a `Result` or an `Option`, or an enum among whose values are refusals (`Status`; `Verdict` within a `Result`).
 
+- Behind a call stand in brackets the names of what it requires, which its caller has to prove; a call without them may be made with every argument of its types.
 - *Answers* are the error type with its variants, as its definition has them, or `None`; where an `Option` holds a fault, `Some` with the variants. A variant that the clause doesn't admit never comes. What variants carry stands at the end.
 - *When* names the clause that tells where each answer comes. "exactly" is one clause for every answer, an `↔`, or a clause each way, up to want of memory; "only" is one way: the answer comes only where the clause says. That of a shelf or a sink is a count of faults that rose in this call or stands at its last value. "free" is want of memory, which may come at any time.
 - *Kept* is for what is lent with `&mut` and changed in place: the clause that says it is as it was behind every answer of the second column. Values are compared as contracts see them: a `Vec` by its items, a type with a `Model` by its view. In brackets stands the part of it of which the clause speaks, or what else than "as it was" it says. What is lent with `&` never changes, and what is handed over is gone, also behind a refusal: "-". Of a shelf or a sink that tells no texts or bytes, as `FileShelf` and `OutSink`, `files` and `taken` say nothing.
-- "the clause" is the only one of its call, which has no name. "{none}" marks what no clause says.
+- "the clause" is the only one of its kind (`requires` or `ensures`) of its call, which has no name. "{none}" marks what no clause says.
 - An `impl` of a trait here has the clauses of the trait; those of `MemShelf`, `SureShelf`, `MemSink`, `FileShelf`, `OutSink`, `Whole` and `Cyclo` may say more. Conversions (`From`) and what is derived can't refuse. Crates of programs and of tests have no public calls.
 """
 
@@ -71,18 +73,20 @@ class Fault(Exception):
 
 @dataclass
 class Clause:
-    """An `ensures` clause: its name, empty where it has none, and its text."""
+    """A clause of a contract: its name, empty where it has none, and its text."""
     name: str
     text: str
 
 
 @dataclass
 class Call:
-    """A public call: its crate, its name as a caller writes it, what it takes, its answer and its `ensures` clauses."""
+    """A public call: its crate, its name as a caller writes it, what it takes, its answer, its `requires` clauses and its
+    `ensures` clauses."""
     crate: str
     path: str
     takes: str
     answer: str
+    premises: list
     clauses: list
 
 
@@ -154,26 +158,25 @@ def one_line(text):
 
 
 def clauses_at(text, at):
-    """The `ensures` clauses of the contract from a place on."""
-    found = []
+    """The `requires` clauses and the `ensures` clauses of the contract from a place on."""
+    found = {"requires": [], "ensures": []}
     head = re.compile(r"\s*(requires|ensures)\b\s*(\w*)\s*(?=\{)")
     while begun := head.match(text, at):
         at = close_of(text, begun.end())
-        if begun[1] == "ensures":
-            found.append(Clause(begun[2], one_line(text[begun.end() + 1:at - 1])))
-    return found
+        found[begun[1]].append(Clause(begun[2], one_line(text[begun.end() + 1:at - 1])))
+    return found["requires"], found["ensures"]
 
 
 def declared_at(text, at):
-    """What a function whose name ends at a place takes and answers, and its clauses."""
+    """What a function whose name ends at a place takes and answers, and its clauses of both kinds."""
     if text[at] == "<":
         at = close_of(text, at)
     end = close_of(text, at)
     takes = one_line(text[at + 1:end - 1])
     answer = re.compile(r"\s*->\s*(.*?)(?=\s+(?:requires|ensures)\b|\s*\{|;$)", re.S | re.M).match(text, end)
     if not answer:
-        return takes, "()", clauses_at(text, end)
-    return takes, one_line(answer[1]), clauses_at(text, answer.end())
+        return takes, "()", *clauses_at(text, end)
+    return takes, one_line(answer[1]), *clauses_at(text, answer.end())
 
 
 def owner_of(word, rest):
@@ -356,7 +359,8 @@ def variant_when(clause, clauses, kind, variant):
     if re.match(rf"result ≢ {own}$", text):
         return f"never, {named(clause)}"
     if text.startswith("IsAnswer result →") and variant in ANSWERED:
-        back = [f" (and the other way where no count of faults rises, {named(other)})" for other in clauses if "NoFaults" in other.text]
+        back = [f" (and the other way where the shelf tells its texts and no count of faults rises, {named(other)})"
+                for other in clauses if "NoFaults" in other.text]
         return f"only, {named(clause)}{''.join(back)}{told_in(text)}"
     if re.search(rf"(IsErrOf result {own}|result ≡ {own}) →", text) and not re.search(r"\.new ≡|IsBegun|≢ None", text):
         return only_or_exact(clause, clauses)
@@ -433,6 +437,12 @@ def kept_of(call, name, enums):
 
 # The page.
 
+def called(call):
+    """The name of a call, with the names of what it requires."""
+    names = [named(premise) for premise in call.premises]
+    return f"`{call.path}`" + (f" (requires {', '.join(names)})" if names else "")
+
+
 def row_of(call, enums):
     """The cells of a call that can refuse."""
     kind, variants = refusals(call, enums)
@@ -449,7 +459,7 @@ def row_of(call, enums):
     kept = [kept_of(call, name, enums) for name in lent(call)]
     if len(kept) > 1:
         kept = [f"`{name}`: {text}" for name, text in zip(lent(call), kept)]
-    return [f"`{call.path}`", answers, "; ".join(when), "; ".join(kept) or "-"]
+    return [called(call), answers, "; ".join(when), "; ".join(kept) or "-"]
 
 
 def seen_by(crate, lower, shown_by):
@@ -506,7 +516,7 @@ def write_page(out):
             out.write("\n" + table_line(["call", "answers", "when", "kept"]) + "|---|---|---|---|\n")
         for call in rows:
             out.write(table_line(row_of(call, enums)))
-        rest = [f"`{call.path}`" for call in calls if not can_refuse(call)]
+        rest = [called(call) for call in calls if not can_refuse(call)]
         if rest:
             out.write(f"\nCan't refuse: {', '.join(rest)}.\n")
     out.write("\n## What answers carry\n\n")
@@ -525,14 +535,32 @@ def write_bare(out):
     out.write(counts(found))
 
 
+def names_of(clauses):
+    """The names of clauses in one text."""
+    return ", ".join(clause.name or "the clause" for clause in clauses) or "none"
+
+
+def write_plain(out):
+    """Writes every call in one line."""
+    for crate, calls, _ in read_all():
+        for call in calls:
+            changed = ", ".join(lent(call)) or "nothing"
+            out.write(f"{crate}: {call.path} | changes {changed} | answers {call.answer}"
+                      f" | requires {names_of(call.premises)} | ensures {names_of(call.clauses)}\n")
+
+
+WRITERS = {"": write_page, "--bare": write_bare, "--plain": write_plain}
+
+
 def main(words):
     """Writes what the words ask for; 2 where they ask for nothing, 1 where the sources can't be read."""
     sys.stdout.reconfigure(encoding="utf-8")
-    if words not in ([], ["--bare"]):
-        sys.stderr.write("usage: tools/calls.py [--bare]\n")
+    word = " ".join(words)
+    if word not in WRITERS:
+        sys.stderr.write("usage: tools/calls.py [--bare | --plain]\n")
         return 2
     try:
-        (write_bare if words else write_page)(sys.stdout)
+        WRITERS[word](sys.stdout)
     except (Fault, OSError) as fault:
         sys.stderr.write(f"{fault}\n")
         return 1
