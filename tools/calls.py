@@ -29,6 +29,7 @@ MEMORY = ("Memory", "NoMemory", "AllocError")
 # Definitions that say of each answer where it comes, and what they say of want of memory.
 FREE = "want of memory is free"
 WHOLE = {
+    "Passes": FREE,
     "Gives": "", "Answers": "", "Allowed": "", "FindsNext": "",
     "Told": FREE, "Runs": FREE, "RunsSorted": FREE, "StopsAs": FREE, "Tells": FREE, "added": FREE,
     "AnswersMirror": "`Exponent` never, and " + FREE,
@@ -394,6 +395,8 @@ def kept_by(clause, name):
     head = head_in(KEPT, text)
     if head and re.search(rf"\b{name}\.new\b", text) and "OnOk" not in text and "OnErr" not in text:
         return named(clause) + (f" ({KEPT[head]})" if KEPT[head] else "")
+    if re.fullmatch(rf"Grows {name}\.old\.\w+ {name}\.new\.\w+", text):
+        return f"{named(clause)} (kept values stay, and there may be more)"
     part = is_same(text, name)
     if part and (text.startswith("OnErr result") or re.match(r"[\w.]+ \w+\.new ≡", text)):
         return named(clause) + (f" (`{part}`)" if part != name else "")
