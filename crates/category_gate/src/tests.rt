@@ -1,4 +1,4 @@
-ghost use Rattle.std.specs.Prelude.{◌≡◌, ◌<◌, IfOk};
+ghost use Rattle.std.specs.Prelude.{◌≡◌, IfOk};
 
 use crate::{GateFault, admit};
 use fusion_rules::{RuleRefused, Rules, RulesFault};
@@ -77,14 +77,14 @@ fn first_law(rt: HostRuntime) -> Result<(), Fail> {
     Ok(())
 }
 
-// The boson of version 2, with a twist and a loop value of a label.
-fn marked(alloc: Global, label: u8, twist: i128, value: i128) -> Result<Draft<Whole>, Fail>
-    requires { label < 2 }
-{
+// The boson of version 2, with the twists and the loop values of 1 and g.
+fn marked(alloc: Global, twists: (i128, i128), loops: (i128, i128)) -> Result<Draft<Whole>, Fail> {
     let mut draft = drafted(alloc, 1, 1)?;
     draft.second();
-    draft.set_twist(label, Int::new(twist).ok_or("too large")?)?;
-    draft.set_loop(label, Int::new(value).ok_or("too large")?)?;
+    draft.set_twist(0, Int::new(twists.0).ok_or("too large")?)?;
+    draft.set_twist(1, Int::new(twists.1).ok_or("too large")?)?;
+    draft.set_loop(0, Int::new(loops.0).ok_or("too large")?)?;
+    draft.set_loop(1, Int::new(loops.1).ok_or("too large")?)?;
     Ok(draft)
 }
 
@@ -92,7 +92,7 @@ fn marked(alloc: Global, label: u8, twist: i128, value: i128) -> Result<Draft<Wh
 #[test]
 fn second_version_admitted(rt: HostRuntime) -> Result<(), Fail> {
     for (twist, value) in [(1, 1), (-1, 1), (1, -1)] {
-        let draft = marked(rt.alloc(), 1, twist, value)?;
+        let draft = marked(rt.alloc(), (1, twist), (1, value))?;
         assert!(rt; admit(rt.alloc(), draft).is_ok());
     }
     Ok(())
@@ -100,14 +100,14 @@ fn second_version_admitted(rt: HostRuntime) -> Result<(), Fail> {
 
 #[test]
 fn first_law_of_marks(rt: HostRuntime) -> Result<(), Fail> {
-    for (label, twist, value, kind, law) in [
-        (0, 2, 1, Kind::Fails, Law::UnitTwist),
-        (1, 2, 2, Kind::Fails, Law::Twist),
-        (1, 1 << 64, 1, Kind::Overflow, Law::Twist),
-        (0, 1, 2, Kind::Fails, Law::UnitLoop),
-        (1, 1, 2, Kind::Fails, Law::LoopSum),
+    for (twists, loops, kind, law) in [
+        ((2, 1), (2, 1), Kind::Fails, Law::UnitTwist),
+        ((1, 2), (2, 1), Kind::Fails, Law::Twist),
+        ((1, 1 << 64), (1, 1), Kind::Overflow, Law::Twist),
+        ((1, 1), (2, 2), Kind::Fails, Law::UnitLoop),
+        ((1, 1), (1, 2), Kind::Fails, Law::LoopSum),
     ] {
-        let draft = marked(rt.alloc(), label, twist, value)?;
+        let draft = marked(rt.alloc(), twists, loops)?;
         let Err(GateFault::Law(event)) = admit(rt.alloc(), draft) else {
             return Err(Fail::from("no event"));
         };
