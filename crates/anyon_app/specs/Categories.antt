@@ -12,8 +12,10 @@ abbrev pub named_or : text.Kind → Result NamedSymbols Fault → Result NamedSy
 named_or kind (Ok named) = Ok named
 named_or kind (Err fault) = Err (category_line kind fault.line fault.cause)
 
+-- the symbols that a text of this kind says, or the reply at its first fault
 abbrev pub named_as : text.Kind → List ℕ → Result NamedSymbols Reply
 named_as kind text = named_or kind (category_of text)
 
+-- the same of a category text
 abbrev pub named_of : List ℕ → Result NamedSymbols Reply
 named_of = named_as Category

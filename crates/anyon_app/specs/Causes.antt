@@ -13,16 +13,19 @@ use Rattle.word_moves.specs.declared.fault.MovesCause.TheVariants as moves
 use Rattle.program_text.specs.declared.fault.ProgramCause.{ProgramCause}
 use Rattle.program_text.specs.declared.fault.ProgramCause.TheVariants as program
 
+-- why a line of any text is refused, in words
 abbrev pub line_cause : LineCause → List ℕ
 line_cause TooLong = codes "line too long"
 line_cause NotAscii = codes "not ascii"
 
+-- why a number of a text is refused, in words
 abbrev pub number_cause : NumberWord → List ℕ
 number_cause Spelling = codes "number spelling"
 number_cause TooManyParts = codes "number parts"
 number_cause TooBig = codes "number too big"
 number_cause ZeroDenominator = codes "number zero denominator"
 
+-- why a line of a category is refused, in words
 abbrev pub category_cause : CategoryCause → List ℕ
 category_cause (Line cause) = line_cause cause
 category_cause Header = codes "header"
@@ -39,6 +42,7 @@ category_cause UnitFuse = codes "unit fuse"
 category_cause NotAdmissible = codes "not admissible"
 category_cause (Number cause) = number_cause cause
 
+-- why a line of marks is refused, in words
 abbrev pub marks_cause : MarksCause → List ℕ
 marks_cause (marks.Line cause) = line_cause cause
 marks_cause marks.Header = codes "header"
@@ -49,6 +53,7 @@ marks_cause marks.UnknownLabel = codes "unknown label"
 marks_cause marks.Repeated = codes "repeated"
 marks_cause (marks.Number cause) = number_cause cause
 
+-- why a line of moves is refused, in words
 abbrev pub moves_cause : MovesCause → List ℕ
 moves_cause (moves.Line cause) = line_cause cause
 moves_cause moves.Header = codes "header"

@@ -17,6 +17,7 @@ abbrev pub moves_or : Result (List BraidMove) Fault → Result (List BraidMove) 
 moves_or (Ok moves) = Ok moves
 moves_or (Err fault) = Err (moves_line fault.line fault.cause)
 
+-- the moves that a text says, or the reply at its first fault
 abbrev pub moves_of_text : List ℕ → Result (List BraidMove) Reply
 moves_of_text text = moves_or (moves_of text)
 

@@ -21,6 +21,7 @@ use Rattle.anyon_app.specs.Categories.{named_of}
 use Rattle.anyon_app.specs.Programs.{outcomes_by, program_of_text, turns_of_text}
 use Rattle.anyon_app.specs.Verdicts.{category_verdict, unless}
 
+-- a number from 2 to 12, or the refusal of any other word
 abbrev pub from_two : Option ℕ → Result ℕ Reply
 from_two None = Err number_line
 from_two (Some n) = if nat_lt 1 n && nat_lt n 13 then Ok n else Err number_line

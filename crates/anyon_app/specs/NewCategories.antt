@@ -36,9 +36,11 @@ text_or command made (Some place) = Err (place_line command made.names place)
 abbrev pub image_made : NamedSymbols → ℕ → NamedSymbols
 image_made named k = named_symbols named.names named.root (image_of (number_image named.root k) (symbols_in named))
 
+-- the first place at which the image has no symbol, since it is too large
 abbrev pub image_missing : NamedSymbols → ℕ → Option Place
 image_missing named k = first_place (symbols_in named) (image_item named.root k (symbols_in named))
 
+-- the canonical text of the image under the exponent k, or the first that refuses it
 unfoldable pub image_text : NamedSymbols → ℕ → Result (List ℕ) Reply
 image_text named k = if is_exponent named.root k then text_or (codes "galois") (image_made named k) (image_missing named k) else Err exponent_line
 
@@ -55,9 +57,11 @@ galois_work category word = admitted_work category (λ named. judged (image_by n
 abbrev pub mirror_made : NamedSymbols → NamedSymbols
 mirror_made named = named_symbols named.names named.root (mirror_of (symbols_in named))
 
+-- the first place at which the mirror has no symbol, since it is too large
 abbrev pub mirror_missing : NamedSymbols → Option Place
 mirror_missing named = first_place (symbols_in named) (mirror_item (symbols_in named))
 
+-- the canonical text of the mirror, or the first that refuses it
 abbrev pub mirror_text : NamedSymbols → Result (List ℕ) Reply
 mirror_text named = text_or (codes "mirror") (mirror_made named) (mirror_missing named)
 
@@ -74,9 +78,11 @@ module _ (one two : NamedSymbols) where
   abbrev pub product_made : NamedSymbols
   product_made = named_symbols (pair_names pair_count) one.root (product_of (symbols_in one) (symbols_in two))
 
+  -- the first place at which the product has no symbol, since it is too large
   abbrev pub product_missing : Option Place
   product_missing = first_place (product_of (symbols_in one) (symbols_in two)) (product_item (symbols_in one) (symbols_in two))
 
+  -- the canonical text of the product, or the first that refuses it
   abbrev pub product_text : Result (List ℕ) Reply
   product_text =
       if not (one.given.version == 2 && two.given.version == 2) then Err product_version_line

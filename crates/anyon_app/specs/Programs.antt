@@ -27,14 +27,16 @@ abbrev pub admitted_as : text.Kind → List ℕ → (NamedSymbols → Work) → 
 admitted_as kind category next =
     read_work (too_long kind) (named_as kind) category (λ named. judged (unless (category_verdict named)) (λ _. next named))
 
+-- the category of the text of this name, and what decides about it
 abbrev pub admitted_work : List ℕ → (NamedSymbols → Work) → Work
 admitted_work = admitted_as Category
 
--- the program of a text of this kind, or the reply at its first fault
+-- a program, or the reply at the first fault of its text
 abbrev pub program_or : text.Kind → Result Program Fault → Result Program Reply
 program_or kind (Ok plan) = Ok plan
 program_or kind (Err fault) = Err (program_line kind fault.line fault.cause)
 
+-- the program that a text of this kind says, or the reply at its first fault
 abbrev pub program_of_text : text.Kind → NamedSymbols → List ℕ → Result Program Reply
 program_of_text kind named text = program_or kind (program_in named.names named.given.fuse text)
 
@@ -42,14 +44,16 @@ program_of_text kind named text = program_or kind (program_in named.names named.
 abbrev pub program_work : text.Kind → List ℕ → NamedSymbols → (Program → Work) → Work
 program_work kind program named next = read_work (too_long kind) (program_of_text kind named) program next
 
+-- the program of the text of this name, over a category
 abbrev pub planned_work : List ℕ → NamedSymbols → (Program → Work) → Work
 planned_work program named next = program_work ProgramText program named next
 
--- the turns of a text, or the reply at its first fault
+-- turns, or the reply at the first fault of their text
 abbrev pub turns_or : Program → Result (List ℕ) ScheduleFault → Result (List ℕ) Reply
 turns_or plan (Ok turns) = Ok turns
 turns_or plan (Err fault) = Err (schedule_line (map (λ site. site.name) plan.sites) fault)
 
+-- the turns that a text says, or the reply at its first fault
 abbrev pub turns_of_text : Program → List ℕ → Result (List ℕ) Reply
 turns_of_text plan text = turns_or plan (schedule_of plan text)
 

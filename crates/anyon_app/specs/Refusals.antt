@@ -82,9 +82,11 @@ exponent_line = refusal_of (codes "exponent" ∷ [])
 abbrev pub product_version_line : Reply
 product_version_line = refusal_of (codes "product" ∷ codes "version" ∷ [])
 
+-- the refusal of a product of categories over these roots, which differ
 abbrev pub product_roots_line : ℕ → ℕ → Reply
 product_roots_line first second = refusal_of (codes "product" ∷ codes "roots" ∷ decimal first ∷ decimal second ∷ [])
 
+-- the refusal of a product of so many labels
 abbrev pub product_labels_line : ℕ → Reply
 product_labels_line count = refusal_of (codes "product" ∷ codes "labels" ∷ decimal count ∷ [])
 
@@ -132,6 +134,7 @@ rules_line names (NoSingleDual a) = refusal_of (codes "dual" ∷ label_names nam
 abbrev pub event_words : List (List ℕ) → Event → List (List ℕ)
 event_words names event = (form_of event.law).name ∷ label_names names event.index
 
+-- the line of the first event: a refusal where its equation fails, a limit where an item of it is too large
 abbrev pub event_reply : Kind → List (List ℕ) → Reply
 event_reply Fails words = refusal_of words
 event_reply Overflow words = limit_of (codes "overflow" ∷ words)

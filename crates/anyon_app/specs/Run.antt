@@ -10,6 +10,7 @@ use Rattle.anyon_app.specs.Programs.{admitted_work, outcomes_by, planned_work, r
 abbrev pub rows_of : NamedSymbols → Program → List ℕ → Result (List ℕ) Reply
 rows_of named plan turns = report_or named.names (outcomes_by named plan turns)
 
+-- the rows of a program by these turns, as a report
 abbrev pub rows_work : NamedSymbols → Program → List ℕ → Work
 rows_work named plan turns = judged (rows_of named plan turns) (λ report. Says (done report))
 

@@ -29,6 +29,7 @@ ends_or names (Err stop) = Err (stop_line stop)
 abbrev pub states_of : NamedSymbols → Program → List ℕ → Result (List ℕ) Reply
 states_of named plan turns = ends_or named.names (scheduled_ends (symbols_in named) plan turns)
 
+-- the final states of a program by these turns, as a report
 abbrev pub states_work : NamedSymbols → Program → List ℕ → Work
 states_work named plan turns = judged (states_of named plan turns) (λ report. Says (done report))
 

@@ -25,9 +25,11 @@ abbrev pub marks_or : Result NamedSymbols Fault → Result NamedSymbols Reply
 marks_or (Ok named) = Ok named
 marks_or (Err fault) = Err (marks_line fault.line fault.cause)
 
+-- the category with the marks that a text says, or the reply at its first fault
 abbrev pub marks_of_text : NamedSymbols → List ℕ → Result NamedSymbols Reply
 marks_of_text named text = marks_or (marks_in named text)
 
+-- the same of the text of this name
 abbrev pub marks_work : List ℕ → NamedSymbols → (NamedSymbols → Work) → Work
 marks_work marks named next = read_work (too_long Marks) (marks_of_text named) marks next
 

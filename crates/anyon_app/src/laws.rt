@@ -4,7 +4,7 @@ ghost use Rattle.category_text.specs.Named.{named_draft};
 ghost use Rattle.io_ports.specs.Memory.{files_of};
 ghost use Rattle.io_ports.specs.Ports.{Rose};
 ghost use Rattle.anyon_app.specs.Work.{WantsNone, reply_of};
-ghost use Rattle.anyon_app.specs.Headline.{HasReply, IsAnswer, IsGiven, work_of};
+ghost use Rattle.anyon_app.specs.Headline.{HasReply, IsAnswer, IsBegun, IsGiven, work_of};
 ghost use Rattle.anyon_app.specs.Comb.{comb_work};
 ghost use Rattle.anyon_app.specs.Laws.{AcceptedIsLawful, FinishedIsLawful, FormatSettles, FormattedAlike, LawfulIsAccepted, LinkedHaveRows, MakesRows, ReportAlike, ReportsRows};
 ghost use Rattle.anyon_app.specs.Make.{make_work};
@@ -38,7 +38,9 @@ pub fn over_sure_shelf<W: Sink>(
     ensures answered { IsAnswer result → HasReply (work_of words.now) (files_of shelf.old.files) (IsGiven result (W.taken sink.old) (W.taken sink.new)) }
 
     ensures unwritten { result ≡ Status.WriteFault → Rose (W.faults sink.old) (W.faults sink.new) }
+    ensures unwritten_reply { result ≡ Status.WriteFault → HasReply (work_of words.now) (files_of shelf.old.files) (IsBegun (W.taken sink.old) (W.taken sink.new)) }
     ensures no_memory { result ≡ Status.NoMemory → W.taken sink.new ≡ W.taken sink.old }
+    ensures kept { files_of shelf.new.files ≡ files_of shelf.old.files }
 {
     anyon(alloc, words, shelf, sink)
 }

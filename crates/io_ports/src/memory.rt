@@ -73,6 +73,7 @@ impl Shelf for MemShelf {
         ensures kept { Some (files_of self.new.files) ≡ Some (files_of self.old.files) }
         ensures later { (other : List ℕ) → self.old.failed ≤ self.new.failed }
         ensures failed { OnErr result (Rose self.old.failed self.new.failed) }
+        ensures unfilled { OnErr result (buf.new ≡ buf.old) }
 
         ensures counted { self.new ≡ record self.old {
           calls = count_up self.old.calls;
@@ -141,6 +142,7 @@ impl Shelf for SureShelf {
         ensures kept { Some (files_of self.new.files) ≡ Some (files_of self.old.files) }
         ensures later { (other : List ℕ) → sure_faults self.old other ≤ sure_faults self.new other }
         ensures failed { OnErr result (Rose (sure_faults self.old name.now) (sure_faults self.new name.now)) }
+        ensures unfilled { OnErr result (buf.new ≡ buf.old) }
 
         ensures counted { self.new ≡ record self.old { failed = faults_after (is_ok result) self.old.failed } }
         ensures fails { is_ok result ≡ is_some (files_of self.old.files name.now) }

@@ -52,6 +52,7 @@ impl<'a, R: Files> Shelf for FileShelf<'a, R> {
         ensures kept { no_files ≡ no_files }
         ensures later { (other : List ℕ) → self.old ≤ self.new }
         ensures failed { OnErr result (Rose self.old self.new) }
+        ensures unfilled { OnErr result (buf.new ≡ buf.old) }
 
         ensures counted { self.new ≡ faults_after (is_ok result) self.old }
     {
@@ -67,7 +68,8 @@ impl<'a, R: Files> Shelf for FileShelf<'a, R> {
 
 // The library says nothing of a buffer behind the count, so the bytes come through one of our own.
 fn read_at<R: Files>(rt: &R, name: &str, at: u64, buf: &mut [u8]) -> io::Result<usize>
-    ensures { IfOk result (λ n. FillsFront buf.old buf.new n) }
+    ensures front { IfOk result (λ n. FillsFront buf.old buf.new n) }
+    ensures unfilled { OnErr result (buf.new ≡ buf.old) }
 {
     let mut file = std::fs::open(rt, name)?;
     file.seek(SeekFrom::Start(at))?;

@@ -21,11 +21,12 @@ pub trait Shelf {
     /// that the text ends at or before `at`.
     ///
     /// `Failed` comes only where the count of this name rose in this call, or stands at its last
-    /// value. A name that isn't there is `Failed`.
+    /// value. A name that isn't there is `Failed`. Behind it `buf` is unchanged.
     fn read(&mut self, name: &str, at: u64, buf: &mut [u8]) -> Result<usize, Failed>
         ensures front { IfOk result (λ n. FillsFront buf.old buf.new n) }
         ensures piece { IfOk result (λ n. GivesPiece (files self.old) name.now at buf.new n) }
         ensures kept { files self.new ≡ files self.old }
         ensures later { (other : List ℕ) → faults self.old other ≤ faults self.new other }
-        ensures failed { OnErr result (Rose (faults self.old name.now) (faults self.new name.now)) };
+        ensures failed { OnErr result (Rose (faults self.old name.now) (faults self.new name.now)) }
+        ensures unfilled { OnErr result (buf.new ≡ buf.old) };
 }
