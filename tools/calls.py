@@ -304,10 +304,11 @@ def head_in(heads, text):
 
 def is_same(text, name):
     """The part of a lent value that an equality says is as it was, or an empty text."""
-    found = re.search(rf"([\w.]+ )?{name}\.new(\.items)? ≡ ([\w.]+ )?{name}\.old(\.items)?(?=\)|$)", text)
-    if not found or found[1] != found[3]:
+    found = re.search(rf"([\w.]+ )?{name}\.new(\.\w+)? ≡ ([\w.]+ )?{name}\.old(\.\w+)?(?=\)|$)", text)
+    if not found or found[1] != found[3] or found[2] != found[4]:
         return ""
-    return (found[1] or "") + name
+    field = found[2] if found[2] and found[2] != ".items" else ""
+    return (found[1] or "") + name + field
 
 
 def closure_in(text):
@@ -398,7 +399,7 @@ def kept_by(clause, name):
     if re.fullmatch(rf"Grows {name}\.old\.\w+ {name}\.new\.\w+", text):
         return f"{named(clause)} (kept values stay, and there may be more)"
     part = is_same(text, name)
-    if part and (text.startswith("OnErr result") or re.match(r"[\w.]+ \w+\.new ≡", text)):
+    if part and (text.startswith("OnErr result") or re.match(r"[\w.]+ \w+\.new(\.\w+)? ≡", text)):
         return named(clause) + (f" (`{part}`)" if part != name else "")
     if text.startswith("OnErr result") and re.search(rf"\b{name}\.new\b.*take n", text):
         return f"{named(clause)} (how far it went)"
