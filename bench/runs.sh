@@ -1,7 +1,8 @@
 #!/usr/bin/env bash
-# Times `run`: a hundred random braids on sixteen Fibonacci strands, beside GAP, PARI and plain C++ on sparse braid matrices
-# (those that are installed), with the same total; then runs at the limits: 65,536 amplitudes, 4,096 words, 4,096 commands.
-# Each line tells seconds of processor time and the peak memory.
+# Times `run` and `comb`: a hundred random braids on sixteen Fibonacci strands, beside GAP, PARI and plain C++ on sparse
+# braid matrices (those that are installed), with the same total; then runs at the limits: 65,536 amplitudes, 4,096 words,
+# 4,096 commands. Each line tells seconds of processor time and the peak memory; `run`, `comb` and plain C++, which are short,
+# are also told in milliseconds by the mean of twenty runs.
 # Build the program first: `rt run` in crates/anyon_cli proves and builds it. Usage: bench/runs.sh PROGRAM
 set -eu
 program=$(realpath "$1")
@@ -23,12 +24,24 @@ python3 "$here/braid_list.py" 16 100 7 program > hundred.txt
 python3 "$here/braid_list.py" 16 100 7 gap > braid_list.g
 python3 "$here/braid_list.py" 16 100 7 pari > braid_list.gp
 python3 "$here/braid_list.py" 16 100 7 plain > plain.txt
+# The milliseconds of processor time of one of twenty runs of a command.
+mean() {
+  local name=$1 spent
+  shift
+  spent=$({ TIMEFORMAT=%U; time for _ in $(seq 20); do "$@" > answer.txt < "${input:-/dev/null}"; done; } 2>&1 | tr -d .)
+  echo "$name: $((10#$spent / 20)) ms"
+}
+
 took 'run, 100 braids' "$program" run fibonacci.txt hundred.txt
+took 'comb, 100 braids' "$program" comb fibonacci.txt hundred.txt
+mean 'run, 100 braids' "$program" run fibonacci.txt hundred.txt
+mean 'comb, 100 braids' "$program" comb fibonacci.txt hundred.txt
 if command -v gap > found.txt; then took 'GAP' gap -q "$here/braids.g"; fi
 if command -v gp > found.txt; then took 'PARI' gp -q "$here/braids.gp"; fi
 if command -v g++ > found.txt; then
   g++ -O2 -o plain "$here/braids.cpp"
   took 'plain C++' sh -c './plain < plain.txt'
+  input=plain.txt mean 'plain C++' ./plain
 fi
 
 # Ten measurements of sixteen Ising strands in turn leave a thousand words, and seven raises spread each.
