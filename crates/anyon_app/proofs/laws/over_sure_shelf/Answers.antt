@@ -10,3 +10,6 @@ returns-clause-read g c fault =
 
 pub returns-clause-answered : goal.returns-clause-answered
 returns-clause-answered g c is = c.anyon.ensures.answered is _ (inl refl)
+
+pub returns-clause-unwritten_reply : goal.returns-clause-unwritten_reply
+returns-clause-unwritten_reply g c fault = c.anyon.ensures.unwritten_reply fault _ (inl refl)
