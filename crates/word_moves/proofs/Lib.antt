@@ -5,4 +5,5 @@ pub mod EndLemmas
 pub mod ReadingLemmas
 pub mod WorkedTexts
 pub mod LinkLemmas
-pub mod CursorLemmas
+pub mod PageLemmas
+pub mod ChangeLemmas

@@ -13,7 +13,7 @@ use Rattle.word_moves.specs.declared.moves.Verdict.TheVariants.{Linked, StartDif
 use Rattle.word_moves.specs.Moves.{moved, moving_letters, same_letter, same_sign}
 use Rattle.word_moves.specs.Verdicts.{LinkedIsMoved, first_different, moved_by, moves_made, on_moved, same_tree, verdict_at, verdict_by}
 
-never : false ≡ true → ⊥
+pub never : false ≡ true → ⊥
 never e = cc
 
 pub both : (a b : Bool) → (a && b) ≡ true → (a ≡ true) × (b ≡ true)
@@ -34,7 +34,7 @@ number_same a = by (eqb_tells a a)
     by (inl h) = h.0
     by (inr h) = absurd (h.1 refl)
 
-both_true : (a b : Bool) → a ≡ true → b ≡ true → (a && b) ≡ true
+pub both_true : (a b : Bool) → a ≡ true → b ≡ true → (a && b) ≡ true
 both_true a b ea eb = ap (λ (x : Bool). x && b) ea ∙ eb
 
 pub sign_is : (s t : Sign) → same_sign s t ≡ true → s ≡ t

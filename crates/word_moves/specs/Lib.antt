@@ -2,3 +2,4 @@ pub mod Moves
 pub mod Verdicts
 pub mod Reading
 pub mod Answers
+pub mod Pages

@@ -1,5 +1,5 @@
 -- Moves of braid letters.
-use Rattle.std.specs.Prelude.{ℕ, ◌+◌, ◌-◌, List, [], ◌∷◌, ◌++◌, Bool, true, false, not, ◌&&◌, ◌||◌, ◌==◌, nat_lt, nat_le, length, take, drop, reverse, if◌then◌else◌, Option, Some, None, option_map}
+use Rattle.std.specs.Prelude.{ℕ, ◌+◌, ◌-◌, List, [], ◌∷◌, ◌++◌, Bool, true, false, not, ◌&&◌, ◌||◌, ◌==◌, nat_lt, nat_le, length, take, drop, if◌then◌else◌, Option, Some, None, option_map}
 use Rattle.std.specs.List.{filter}
 use Rattle.program_text.specs.Letters.{letters}
 use Rattle.program_text.specs.Program.{Program}
@@ -107,7 +107,3 @@ moved n m ls = if nat_le 1 (place_of m) && nat_le (place_of m) (length ls + 1) t
 -- letters, where a move was possible
 abbrev pub where_possible : Bool → List Letter → Option (List Letter)
 where_possible possible ls = if possible then Some ls else None
-
--- letters before a cursor, and those behind it, which are given in reverse order
-abbrev pub joined : List Letter → List Letter → List Letter
-joined front back = front ++ reverse back

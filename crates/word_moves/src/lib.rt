@@ -5,12 +5,11 @@
 //!   (`specs/Moves.antt`, `moving_letters`).
 //! - *move*: a change of a few letters at a place counted from 1; the others stay (`moved`).
 //! - *linked*: moves lead from one list of letters to the other (`specs/Verdicts.antt`, `AreLinked`).
+//! - *pages*: the letters that moves are made on, as lists one after another (`specs/Pages.antt`, `flat`).
 //! - *verdict*: whether a list of moves leads from one program to another (`verdict_of`).
 //! - *moves of a text*: a move a line, or the first fault (`specs/Reading.antt`, `moves_of`).
 #![tactic(auto)]
 
-mod at_cursor;
-mod cursor;
 mod fault;
 mod fronts;
 mod header;
@@ -18,9 +17,12 @@ mod laws;
 mod letters;
 mod move_line;
 mod moves;
+mod page;
+mod pages;
 mod pairs;
 mod push;
 mod reading;
+mod spot;
 mod step;
 mod trees;
 mod verdict;

@@ -1,3 +1,6 @@
+ghost use Rattle.std.specs.Prelude.{◌≡◌};
+ghost use Rattle.word_moves.specs.Moves.{place_of};
+
 use program_text::Sign;
 
 /// A change of braid letters, at a place counted from 1.
@@ -11,6 +14,19 @@ pub enum BraidMove {
     Far { place: u32 },
     /// Of three braids of one sign at neighbouring gaps, the first and the third at one of them, all change to the other.
     Yb { place: u32 },
+}
+
+impl BraidMove {
+    pub(crate) fn place(self) -> u32
+        ensures { result ≡ place_of self }
+    {
+        match self {
+            BraidMove::Cancel { place }
+            | BraidMove::Insert { place, .. }
+            | BraidMove::Far { place }
+            | BraidMove::Yb { place } => place,
+        }
+    }
 }
 
 /// Moves in their order.

@@ -6,6 +6,7 @@ ghost use Rattle.word_moves.specs.Verdicts.{IsWellFormed, first_different, verdi
 
 use crate::letters::moving_letters;
 use crate::moves::{Moves, Verdict};
+use crate::pages::Pages;
 use crate::pairs::same_letter;
 use crate::step::make_moves;
 use crate::trees::{count_strands, same_tree};
@@ -15,9 +16,8 @@ use std::alloc::{AllocError, Global};
 /// Whether moves lead from one program to another: over the same labelled start tree, from the letters of the one to those
 /// of the other. Raises are no letters.
 ///
-/// `StartDiffers` comes before `NoMove`, and `NoMove` before `EndDiffers`. A cursor stands among the letters: cancelling and
-/// inserting take it to their place, and the other moves only forward, up to behind their letters. So the time of a move is
-/// that of its way from the last one, and of the other moves that of the letters that they change.
+/// `StartDiffers` comes before `NoMove`, and `NoMove` before `EndDiffers`. The letters stand on pages of about a thousand, so
+/// the time of a move is that of counting the pages before its place and of shifting the letters of one page.
 pub fn linked(alloc: Global, from: &Plan, to: &Plan, moves: &Moves) -> Result<Verdict, AllocError>
     requires from { IsWellFormed (program_of from.now) }
     requires to { IsWellFormed (program_of to.now) }
@@ -27,13 +27,13 @@ pub fn linked(alloc: Global, from: &Plan, to: &Plan, moves: &Moves) -> Result<Ve
     if !same_tree(&from.start, &to.start) {
         return Ok(Verdict::StartDiffers);
     }
-    let mut letters = moving_letters(alloc, from)?;
+    let mut letters = Pages::new(alloc, moving_letters(alloc, from)?)?;
     let end = moving_letters(alloc, to)?;
     let strands = count_strands(&from.start);
     if let Some(number) = make_moves(alloc, strands, &moves.list, &mut letters)? {
         return Ok(Verdict::NoMove { number });
     }
-    match first_different(&letters, &end) {
+    match first_different(&letters.joined(alloc)?, &end) {
         Some(place) => Ok(Verdict::EndDiffers { place }),
         None => Ok(Verdict::Linked),
     }
